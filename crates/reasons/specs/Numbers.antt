@@ -1,0 +1,27 @@
+-- Document 01, the table of reasons: the number of each case, and the row that is reported with it.
+use Prim.Native.Nat.{ℕ}
+use Rattle.reasons.specs.declared.Reason.{Reason}
+use Rattle.reasons.specs.declared.Reason.the-variants.{ShortJob, WrongMark, TooMany, WrongHeader, VariableRange, EquationVariables, EquationRange, ShortArea, WrongArgument}
+
+abbrev pub numberOf : Reason → ℕ
+numberOf ShortJob = 1
+numberOf WrongMark = 2
+numberOf TooMany = 3
+numberOf WrongHeader = 4
+numberOf (VariableRange row) = 5
+numberOf (EquationVariables row) = 6
+numberOf (EquationRange row) = 7
+numberOf ShortArea = 8
+numberOf WrongArgument = 9
+
+-- "For the other reasons the row is 0."
+abbrev pub rowOf : Reason → ℕ
+rowOf ShortJob = 0
+rowOf WrongMark = 0
+rowOf TooMany = 0
+rowOf WrongHeader = 0
+rowOf (VariableRange row) = row
+rowOf (EquationVariables row) = row
+rowOf (EquationRange row) = row
+rowOf ShortArea = 0
+rowOf WrongArgument = 0
