@@ -1,0 +1,110 @@
+-- Each tool at work, and the definitions at worked values. The must-fail edits turn statements of this file false: a tool
+-- that proved one of them would be no tool.
+use mathlib.Core.Path.{_≡_, refl}
+use mathlib.Core.Logic.{_↔_, _≢_}
+use mathlib.Core.Bool.{true, false}
+use mathlib.Core.List.{[], _∷_}
+use Prim.Native.Nat.{ℕ, _<_}
+use native.Mathlib.Omega.{arith}
+use lib.IntN.{ℤ, pos, negsuc, _+ℤ_, _-ℤ_, _*ℤ_}
+use lib.Signed.{_≤ℤ_, _<ℤ_, leZ, ltZ}
+use mir.Syntax.{w32, w64}
+use mir.Val.{SFits, toZ, ofZ}
+use Rattle.ints.specs.Within.{Within}
+use Rattle.ints.specs.Floor.{floorDiv, floorMod, ceilDiv}
+use Rattle.ints.specs.Division.{division, quotient, refused}
+use Rattle.ints.proofs.Ring.{ring, terms}
+use Rattle.ints.proofs.Linear.{lin, lin₀, _&_, facts}
+use Rattle.ints.proofs.Products.{prod, within-mul}
+use Rattle.ints.proofs.Signed.{signed}
+use Rattle.ints.proofs.Gcd.{gcd}
+use Rattle.ints.proofs.Congruence.{period}
+
+-- ---- ring
+square : (x y : ℤ) → (x +ℤ y) *ℤ (x +ℤ y) ≡ x *ℤ x +ℤ pos 2 *ℤ x *ℤ y +ℤ y *ℤ y
+square x y = ring (x ∷ y ∷ []) (search terms depth 20) (search terms depth 20) tt
+
+-- Euler's four squares: eight atoms, degree four
+four-squares : (a b c d x y z w : ℤ) →
+    (a *ℤ a +ℤ b *ℤ b +ℤ c *ℤ c +ℤ d *ℤ d) *ℤ (x *ℤ x +ℤ y *ℤ y +ℤ z *ℤ z +ℤ w *ℤ w)
+    ≡ (a *ℤ x +ℤ b *ℤ y +ℤ c *ℤ z +ℤ d *ℤ w) *ℤ (a *ℤ x +ℤ b *ℤ y +ℤ c *ℤ z +ℤ d *ℤ w)
+    +ℤ (a *ℤ y -ℤ b *ℤ x +ℤ c *ℤ w -ℤ d *ℤ z) *ℤ (a *ℤ y -ℤ b *ℤ x +ℤ c *ℤ w -ℤ d *ℤ z)
+    +ℤ (a *ℤ z -ℤ b *ℤ w -ℤ c *ℤ x +ℤ d *ℤ y) *ℤ (a *ℤ z -ℤ b *ℤ w -ℤ c *ℤ x +ℤ d *ℤ y)
+    +ℤ (a *ℤ w +ℤ b *ℤ z -ℤ c *ℤ y -ℤ d *ℤ x) *ℤ (a *ℤ w +ℤ b *ℤ z -ℤ c *ℤ y -ℤ d *ℤ x)
+four-squares a b c d x y z w = ring (a ∷ b ∷ c ∷ d ∷ x ∷ y ∷ z ∷ w ∷ []) (search terms depth 20) (search terms depth 20) tt
+
+-- any term is an atom, and coefficients may be large
+any-atom : (f : ℤ → ℤ) (x : ℤ) → pos 9223372036854775807 *ℤ f x -ℤ f x *ℤ pos 9223372036854775807 ≡ pos 0
+any-atom f x = ring (f x ∷ []) (search terms depth 20) (search terms depth 20) tt
+
+-- ---- lin
+next : (x y z : ℤ) → x ≤ℤ y → y <ℤ z → (x +ℤ pos 1) ≤ℤ z
+next x y z h k = lin (x ∷ y ∷ z ∷ []) (h & k) (search facts depth 20) (omega arith)
+
+-- over the whole numbers, not the fractions
+whole : (x y : ℤ) → (pos 3 *ℤ x) <ℤ (pos 3 *ℤ y +ℤ pos 3) → x ≤ℤ y
+whole x y h = lin (x ∷ y ∷ []) h (search facts depth 20) (omega arith)
+
+-- a product is an unknown, whatever way it is written
+products : (a b x y k c : ℤ) → a *ℤ x +ℤ b *ℤ y ≡ c → a *ℤ (x +ℤ b *ℤ k) +ℤ b *ℤ (y -ℤ a *ℤ k) ≡ c
+products a b x y k c e = lin (a ∷ b ∷ x ∷ y ∷ k ∷ c ∷ []) e (search facts depth 20) (omega arith)
+
+-- a natural is an atom, and goes by what is known of it
+natural : (lo : ℤ) (j k : ℕ) → j < k → (lo +ℤ pos j) <ℤ (lo +ℤ pos k)
+natural lo j k h = lin₀ (lo ∷ pos j ∷ pos k ∷ []) (search facts depth 20) (omega arith)
+
+-- tests, negations and both directions
+tests : (x y : ℤ) → leZ x y ≡ false → ltZ (y +ℤ pos 1) x ≡ false → x ≡ y +ℤ pos 1
+tests x y h k = lin (x ∷ y ∷ []) (h & k) (search facts depth 20) (omega arith)
+
+trichotomy : (x y : ℤ) → x ≢ y → (ltZ x y ≡ false) ↔ (y <ℤ x)
+trichotomy x y h = lin (x ∷ y ∷ []) h (search facts depth 20) (omega arith)
+
+-- thirteen atoms, in a chain
+chain : (a b c d e f g h i j k l m : ℤ) → a ≤ℤ b → b ≤ℤ c → c <ℤ d → d ≤ℤ (e -ℤ pos 1000000000000000000) → e ≤ℤ f → f ≤ℤ g → (pos 2 *ℤ g) ≤ℤ (pos 2 *ℤ h +ℤ pos 1) →
+    h ≡ i → i ≤ℤ j → j ≤ℤ k → k ≤ℤ l → l ≤ℤ m → (a +ℤ pos 1000000000000000001) ≤ℤ m
+chain a b c d e f g h i j k l m p1 p2 p3 p4 p5 p6 p7 p8 p9 p10 p11 p12 =
+    lin (a ∷ b ∷ c ∷ d ∷ e ∷ f ∷ g ∷ h ∷ i ∷ j ∷ k ∷ l ∷ m ∷ []) (p1 & p2 & p3 & p4 & p5 & p6 & p7 & p8 & p9 & p10 & p11 & p12) (search facts depth 20) (omega arith)
+
+-- ---- products of facts
+grows : (s k : ℤ) → pos 1 ≤ℤ s → pos 0 ≤ℤ k → k ≤ℤ (s *ℤ k)
+grows s k h l = lin (s ∷ k ∷ []) (prod h l) (search facts depth 20) (omega arith)
+
+-- the step of a run of two or more numbers within ±1,000,000,000
+step-size : (f s k : ℤ) → Within 1000000000 f → (f +ℤ s *ℤ (k -ℤ pos 1)) ≤ℤ pos 1000000000 → pos 0 ≤ℤ s → pos 2 ≤ℤ k → s ≤ℤ pos 2000000000
+step-size f s k a b h l = lin (f ∷ s ∷ k ∷ []) (a & b & prod h l) (search facts depth 20) (omega arith)
+
+-- ---- signed code
+fits : (x y : ℤ) → Within 2000000000 x → Within 2000000000 y → SFits w64 (x *ℤ y)
+fits x y h k = lin (x ∷ y ∷ []) (within-mul h k) (search signed depth 20) (omega arith)
+
+-- what a branch on two locals leaves, and the difference that it makes safe
+branch : (x y : ℤ) → SFits w32 x → SFits w32 y → ltZ (toZ w32 (ofZ w32 x)) (toZ w32 (ofZ w32 y)) ≡ true → SFits w64 (toZ w32 (ofZ w32 y) -ℤ x) × (pos 1 ≤ℤ (y -ℤ x))
+branch x y f g t = lin (x ∷ y ∷ []) (f & g & t) (search signed depth 20) (omega arith)
+
+-- ---- floor division, at document 01's values and the others of each sign
+floors : (floorDiv (negsuc 6) (pos 2) ≡ negsuc 3) × (floorDiv (pos 7) (negsuc 1) ≡ negsuc 3) × (floorDiv (negsuc 7) (pos 2) ≡ negsuc 3) × (floorDiv (negsuc 6) (negsuc 1) ≡ pos 3)
+unfolding floorDiv
+floors = (refl, refl, refl, refl)
+
+remainders : (floorMod (negsuc 6) (pos 2) ≡ pos 1) × (floorMod (pos 7) (negsuc 1) ≡ negsuc 0) × (floorMod (negsuc 6) (negsuc 1) ≡ negsuc 0)
+unfolding floorMod floorDiv
+remainders = (refl, refl, refl)
+
+ceilings : (ceilDiv (negsuc 6) (pos 2) ≡ negsuc 2) × (ceilDiv (pos 7) (pos 2) ≡ pos 4) × (ceilDiv (pos 7) (negsuc 1) ≡ negsuc 2)
+unfolding ceilDiv floorDiv
+ceilings = (refl, refl, refl)
+
+-- ---- the division working: at a limit, past it, and by 0
+answers : (division (pos 4000000000000000000) (negsuc 0) ≡ quotient (negsuc 3999999999999999999)) × (division (pos 4000000000000000001) (pos 1) ≡ refused 9 0) × (division (pos 1) (pos 0) ≡ refused 9 0)
+unfolding floorDiv
+answers = (refl, refl, refl)
+
+-- ---- gcd and congruence: 6·x ≡ 4 (mod −10) has a solution in every class of 5
+gcds : (gcd (pos 1000000000000000000) (pos 999999999999999989) ≡ pos 1) × (gcd (pos 6) (negsuc 9) ≡ pos 2) × (gcd (pos 0) (pos 0) ≡ pos 0)
+unfolding gcd
+gcds = (refl, refl, refl)
+
+periods : period (pos 6) (pos 10) ≡ pos 5
+unfolding period gcd floorDiv
+periods = refl

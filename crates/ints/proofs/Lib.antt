@@ -1,0 +1,65 @@
+-- Laws of ℤ, for the proofs of every crate. Most of what a proof needs comes from this root:
+--
+--     use Rattle.ints.proofs.{ℤ, pos, _+ℤ_, _*ℤ_, _≤ℤ_, List, [], _∷_, arith, ring, terms, lin, lin₀, _&_, facts, prod}
+--
+-- One example of each tool; Examples.antt has these and more, and the must-fail edits beside it show what each refuses.
+--
+--     square : (x y : ℤ) → (x +ℤ y) *ℤ (x +ℤ y) ≡ x *ℤ x +ℤ pos 2 *ℤ x *ℤ y +ℤ y *ℤ y
+--     square x y = ring (x ∷ y ∷ []) (search terms depth 20) (search terms depth 20) tt
+--
+--     next : (x y z : ℤ) → x ≤ℤ y → y <ℤ z → (x +ℤ pos 1) ≤ℤ z
+--     next x y z h k = lin (x ∷ y ∷ z ∷ []) (h & k) (search facts depth 20) (omega arith)
+--
+--     grows : (s k : ℤ) → pos 1 ≤ℤ s → pos 0 ≤ℤ k → k ≤ℤ (s *ℤ k)
+--     grows s k h l = lin (s ∷ k ∷ []) (prod h l) (search facts depth 20) (omega arith)
+--
+--     fits : (x y : ℤ) → Within 2000000000 x → Within 2000000000 y → SFits w64 (x *ℤ y)
+--     fits x y h k = lin (x ∷ y ∷ []) (within-mul h k) (search signed depth 20) (omega arith)
+--
+-- A few habits. `≤ℤ` binds tighter than `+ℤ`: write (x +ℤ pos 1) ≤ℤ z. ℤ's operations compute at constructors, and `lin`
+-- does not read what is left of `pos n +ℤ pos 1`: state the step over variables of ℤ, and instantiate it. A fact that is
+-- itself an `rw ..` wants a typed `let`. A long statement wants more steps: (search facts depth 20 fits 5000).
+--
+-- The files, in the order in which they rest on each other:
+
+-- integers as differences of naturals: the ground
+pub mod Difference
+-- the order, and the tests `ltZ` and `leZ`
+pub mod Order
+-- the laws of the ring
+pub mod RingLaws
+-- polynomials and their normal form
+pub mod Polynomial
+-- the tool `ring`
+pub mod Ring
+-- the tool `lin`
+pub mod Linear
+-- products of facts and of sizes, cancelling a factor
+pub mod Products
+-- the test `isWithin`
+pub mod Within
+-- what the checker asks of signed code: `lin` with the ruleset `signed`
+pub mod Signed
+-- division rounded down
+pub mod Floor
+-- the machine's division, and the floor from it
+pub mod Truncated
+-- divisibility
+pub mod Divides
+-- the greatest common divisor, with Bézout's identity
+pub mod Gcd
+-- u·x ≡ v (mod d)
+pub mod Congruence
+-- the limits of the division working
+pub mod Limits
+-- each tool at work
+pub mod Examples
+pub use lib.IntN.{ℤ, pos, negsuc, negℤ, natAbs, _+ℤ_, _-ℤ_, _*ℤ_}
+pub use lib.Signed.{_≤ℤ_, _<ℤ_, leZ, ltZ, quotZ, remZ}
+pub use mathlib.Core.List.{List, [], _∷_}
+pub use native.Mathlib.Omega.{arith}
+pub use Order.{le-or-lt}
+pub use Ring.{ring, terms}
+pub use Linear.{lin, lin₀, _&_, facts}
+pub use Products.{prod, within-mul}
+pub use Signed.{signed}

@@ -1,0 +1,67 @@
+-- The bridge to what the checker asks of signed code. A signed local is its bits, so a goal has `toZ w (ofZ w x)` where
+-- the source has x, and asks `SFits w x` of every result. With
+--
+--     lin ρ facts-to-go-by (search signed depth 20) (omega arith)
+--
+-- such goals are read as if the bits were not there: `signed` is `facts` with `SFits` and the bits of locals, of
+-- quotients and of remainders. A premise `SFits w x` is looked for among the hypotheses, or listed: (search (signed, h) ..).
+use mathlib.Core.Path.{_≡_, refl, sym, _∙_, ap, ap₂}
+use mathlib.Core.Logic.{_↔_, _≢_}
+use mathlib.Core.List.{List}
+use Prim.Native.Nat.{ℕ, zero, suc, _+_, _≤_, _<_, _^_}
+use native.Mathlib.Omega.{arith}
+use lib.Dec.{eqb}
+use borrow.Author.Tests.{ne-eqb}
+use lib.IntN.{ℤ, pos, negsuc, natAbs}
+use lib.Signed.{quotZ, remZ, mag}
+use mir.Syntax.{Width, w8, w16, w32, w64, w128}
+use mir.Val.{SFits, hbits, toZ, ofZ}
+use mir.Facts.{toZ-ofZ}
+use Rattle.ints.proofs.Difference.{negPart, _⊖_, differences}
+use Rattle.ints.proofs.Ring.{Denotes}
+use Rattle.ints.proofs.Linear.{Reading, exactly, added, taken, value, value-is, facts}
+
+-- ---- a result fits its width
+mag-iff : (x : ℤ) (h a b : ℕ) → x ≡ a ⊖ b → (mag x < h) ↔ ((b ≤ a + h) × (a < b + h))
+mag-iff (pos c) h a b e = let e′ : c + b ≡ a + 0 = simp differences at e in (λ l. omega arith, λ l. omega arith)
+mag-iff (negsuc c) h a b e = let e′ : 0 + b ≡ a + suc c = simp differences at e in (λ l. omega arith, λ l. omega arith)
+
+pub fits-iff : (w : Width) (x : ℤ) (a b : ℕ) → x ≡ a ⊖ b → SFits w x ↔ ((b ≤ a + 2 ^ hbits w) × (a < b + 2 ^ hbits w))
+fits-iff w x a b e = let (to, from) = mag-iff x (2 ^ hbits w) a b e in (λ f. to (f .sfits), λ p. record { sfits = from p })
+
+abbrev pub reads-fits : (ρ : List ℤ) (x : ℤ) → Denotes ρ x → (w : Width) → Reading ρ (SFits w x)
+reads-fits ρ x l w = exactly ρ (fits-iff w x (added (value ρ x l) ρ) (taken (value ρ x l) ρ) (value-is ρ x l))
+
+-- ---- bits read back
+abbrev pub bits : (ρ : List ℤ) (w : Width) (x : ℤ) → SFits w x → Denotes ρ x → Denotes ρ (toZ w (ofZ w x))
+bits ρ w x f l = record { expr = l .expr; is = l .is ∙ sym (toZ-ofZ f) }
+
+abbrev pub quot-bits : (ρ : List ℤ) (w : Width) (n d : ℤ) → SFits w n → SFits w d → Denotes ρ (quotZ n d) → Denotes ρ (quotZ (toZ w (ofZ w n)) (toZ w (ofZ w d)))
+quot-bits ρ w n d f g l = record { expr = l .expr; is = l .is ∙ sym (ap₂ quotZ (toZ-ofZ f) (toZ-ofZ g)) }
+
+abbrev pub rem-bits : (ρ : List ℤ) (w : Width) (n d : ℤ) → SFits w n → SFits w d → Denotes ρ (remZ n d) → Denotes ρ (remZ (toZ w (ofZ w n)) (toZ w (ofZ w d)))
+rem-bits ρ w n d f g l = record { expr = l .expr; is = l .is ∙ sym (ap₂ remZ (toZ-ofZ f) (toZ-ofZ g)) }
+
+pub ruleset signed = (facts, reads-fits, bits, quot-bits, rem-bits)
+
+-- ---- bits and 0
+zero-bits : (w : Width) → toZ w 0 ≡ pos 0
+zero-bits w8 = refl
+zero-bits w16 = refl
+zero-bits w32 = refl
+zero-bits w64 = refl
+zero-bits w128 = refl
+
+pub bits-nonzero : (w : Width) (x : ℤ) → SFits w x → x ≢ pos 0 → 0 < ofZ w x
+bits-nonzero w x f h = go (ofZ w x) refl
+  where
+    go : (b : ℕ) → ofZ w x ≡ b → 0 < b
+    go zero e = absurd (h (sym (toZ-ofZ f) ∙ ap (toZ w) e ∙ zero-bits w))
+    go (suc b) e = omega arith
+
+-- the test `x == 0`, which is made on the bits
+pub bits-zero : (w : Width) (x : ℤ) → SFits w x → eqb (ofZ w x) 0 ≡ eqb (natAbs x) 0
+bits-zero w (pos a) f = refl
+bits-zero w (negsuc a) f =
+    let some : 0 < ofZ w (negsuc a) = bits-nonzero w (negsuc a) f (λ e. omega (arith, ap negPart e)) in
+    ne-eqb (ofZ w (negsuc a)) 0 (λ e. omega arith) ∙ sym (ne-eqb (suc a) 0 (λ e. omega arith))

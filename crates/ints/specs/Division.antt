@@ -1,0 +1,31 @@
+-- Document 01, "Workings": what division answers for every pair of numbers.
+use mathlib.Core.Bool.{Bool, not, _&&_, cond}
+use Prim.Native.Nat.{ℕ}
+use lib.Dec.{eqb}
+use lib.IntN.{ℤ, natAbs}
+use Rattle.reasons.specs.Numbers.{numberOf, rowOf}
+use Rattle.ints.specs.Within.{isWithin}
+use Rattle.ints.specs.Floor.{floorDiv}
+use Rattle.ints.specs.declared.Division.{Division}
+use Rattle.ints.specs.declared.Division.the-variants.{Quotient, Refused}
+
+-- an answer in document 01's terms: a quotient, or refused with a reason and a row
+pub data Answer : Type 0 where
+  quotient : ℤ → Answer
+  refused : ℕ → ℕ → Answer
+
+-- what each case of the program's enum says
+abbrev pub answerOf : Division → Answer
+answerOf (Quotient q) = quotient q
+answerOf (Refused r) = refused (numberOf r) (rowOf r)
+
+abbrev pub limit : ℕ
+limit = 4000000000000000000
+
+-- "Both arguments lie within ±4,000,000,000,000,000,000, divisor not 0."
+abbrev pub inLimits : ℤ → ℤ → Bool
+inLimits n d = isWithin limit n && (isWithin limit d && not (eqb (natAbs d) 0))
+
+-- the quotient rounded down, or reason 9
+abbrev pub division : ℤ → ℤ → Answer
+division n d = cond (inLimits n d) (quotient (floorDiv n d)) (refused 9 0)

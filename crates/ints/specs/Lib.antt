@@ -1,0 +1,4 @@
+pub mod Within
+pub mod Floor
+pub mod Divides
+pub mod Division

@@ -1,0 +1,62 @@
+//! Whole numbers: the division working, and the laws of ℤ that the proofs of every other crate go by.
+
+ghost use mathlib.Core.Path.{_≡_};
+ghost use mathlib.Core.Logic.{_≢_};
+ghost use lib.IntN.{pos};
+ghost use Rattle.ints.specs.Within.{Within, isWithin};
+ghost use Rattle.ints.specs.Floor.{floorDiv};
+ghost use Rattle.ints.specs.Division.{answerOf, division, limit, inLimits};
+use reasons::Reason;
+
+/// What `divide` answers.
+pub enum Division {
+    Quotient(i64),
+    Refused(Reason),
+}
+
+/// n / d rounded towards the lower whole number, also when either is negative. Refused where d is 0, or n or d is
+/// larger in size than 4,000,000,000,000,000,000.
+pub fn divide(n: i64, d: i64) -> Division
+    ensures { λ r. ⌜ answerOf r ≡ division n d ⌝ }
+{
+    if in_limits(n, d) {
+        Division::Quotient(floor_div(n, d))
+    } else {
+        Division::Refused(Reason::WrongArgument)
+    }
+}
+
+fn in_limits(n: i64, d: i64) -> bool
+    ensures { λ r. ⌜ r ≡ inLimits n d ⌝ }
+{
+    if in_range(n) {
+        if in_range(d) {
+            return d != 0;
+        }
+    }
+    false
+}
+
+fn in_range(x: i64) -> bool
+    ensures { λ r. ⌜ r ≡ isWithin limit x ⌝ }
+{
+    if x < -4000000000000000000 {
+        return false;
+    }
+    x <= 4000000000000000000
+}
+
+// `/` rounds towards zero: where the remainder and the divisor have opposite signs, the floor is one less.
+fn floor_div(n: i64, d: i64) -> i64
+    requires { ⌜ Within limit n ⌝ }
+    requires { ⌜ d ≢ pos 0 ⌝ }
+    ensures { λ q. ⌜ q ≡ floorDiv n d ⌝ }
+{
+    let q = n / d;
+    let r = n % d;
+    if 0 < d {
+        if r < 0 { q - 1 } else { q }
+    } else {
+        if 0 < r { q - 1 } else { q }
+    }
+}
