@@ -1,5 +1,4 @@
--- Each tool at work, and the definitions at worked values. The must-fail edits turn statements of this file false: a tool
--- that proved one of them would be no tool.
+-- Each tool at work. The must-fail edits turn statements of this file false: a tool that proved one of them would be none.
 use mathlib.Core.Path.{_≡_, refl}
 use mathlib.Core.Logic.{_↔_, _≢_}
 use mathlib.Core.Bool.{true, false}
@@ -11,8 +10,7 @@ use lib.Signed.{_≤ℤ_, _<ℤ_, leZ, ltZ}
 use mir.Syntax.{w32, w64}
 use mir.Val.{SFits, toZ, ofZ}
 use Rattle.ints.specs.Within.{Within}
-use Rattle.ints.specs.Floor.{floorDiv, floorMod, ceilDiv}
-use Rattle.ints.specs.Division.{division, quotient, refused}
+use Rattle.ints.specs.Floor.{floorDiv}
 use Rattle.ints.proofs.Ring.{ring, terms}
 use Rattle.ints.proofs.Linear.{lin, lin₀, _&_, facts}
 use Rattle.ints.proofs.Products.{prod, within-mul}
@@ -53,6 +51,9 @@ products a b x y k c e = lin (a ∷ b ∷ x ∷ y ∷ k ∷ c ∷ []) e (search 
 natural : (lo : ℤ) (j k : ℕ) → j < k → (lo +ℤ pos j) <ℤ (lo +ℤ pos k)
 natural lo j k h = lin₀ (lo ∷ pos j ∷ pos k ∷ []) (search facts depth 20) (omega arith)
 
+back : (lo : ℤ) (j k : ℕ) → (lo +ℤ pos j) <ℤ (lo +ℤ pos k) → j < k
+back lo j k h = lin (lo ∷ pos j ∷ pos k ∷ []) h (search facts depth 20) (omega arith)
+
 -- tests, negations and both directions
 tests : (x y : ℤ) → leZ x y ≡ false → ltZ (y +ℤ pos 1) x ≡ false → x ≡ y +ℤ pos 1
 tests x y h k = lin (x ∷ y ∷ []) (h & k) (search facts depth 20) (omega arith)
@@ -81,24 +82,6 @@ fits x y h k = lin (x ∷ y ∷ []) (within-mul h k) (search signed depth 20) (o
 -- what a branch on two locals leaves, and the difference that it makes safe
 branch : (x y : ℤ) → SFits w32 x → SFits w32 y → ltZ (toZ w32 (ofZ w32 x)) (toZ w32 (ofZ w32 y)) ≡ true → SFits w64 (toZ w32 (ofZ w32 y) -ℤ x) × (pos 1 ≤ℤ (y -ℤ x))
 branch x y f g t = lin (x ∷ y ∷ []) (f & g & t) (search signed depth 20) (omega arith)
-
--- ---- floor division, at document 01's values and the others of each sign
-floors : (floorDiv (negsuc 6) (pos 2) ≡ negsuc 3) × (floorDiv (pos 7) (negsuc 1) ≡ negsuc 3) × (floorDiv (negsuc 7) (pos 2) ≡ negsuc 3) × (floorDiv (negsuc 6) (negsuc 1) ≡ pos 3)
-unfolding floorDiv
-floors = (refl, refl, refl, refl)
-
-remainders : (floorMod (negsuc 6) (pos 2) ≡ pos 1) × (floorMod (pos 7) (negsuc 1) ≡ negsuc 0) × (floorMod (negsuc 6) (negsuc 1) ≡ negsuc 0)
-unfolding floorMod floorDiv
-remainders = (refl, refl, refl)
-
-ceilings : (ceilDiv (negsuc 6) (pos 2) ≡ negsuc 2) × (ceilDiv (pos 7) (pos 2) ≡ pos 4) × (ceilDiv (pos 7) (negsuc 1) ≡ negsuc 2)
-unfolding ceilDiv floorDiv
-ceilings = (refl, refl, refl)
-
--- ---- the division working: at a limit, past it, and by 0
-answers : (division (pos 4000000000000000000) (negsuc 0) ≡ quotient (negsuc 3999999999999999999)) × (division (pos 4000000000000000001) (pos 1) ≡ refused 9 0) × (division (pos 1) (pos 0) ≡ refused 9 0)
-unfolding floorDiv
-answers = (refl, refl, refl)
 
 -- ---- gcd and congruence: 6·x ≡ 4 (mod −10) has a solution in every class of 5
 gcds : (gcd (pos 1000000000000000000) (pos 999999999999999989) ≡ pos 1) × (gcd (pos 6) (negsuc 9) ≡ pos 2) × (gcd (pos 0) (pos 0) ≡ pos 0)

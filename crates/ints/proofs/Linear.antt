@@ -6,10 +6,10 @@
 -- to go by, joined by `&`; `lin₀` takes none. `search facts` turns facts and goal into a statement over ℕ, after ring
 -- normalisation, and `omega` proves that. An atom `pos k` is read as the natural k, so what is known of k serves too.
 --
--- Read and proved: `≤ℤ`, `<ℤ`, `≡`, `Within`, the tests `leZ` and `ltZ` as definitions and branches have them, and
--- `⊥`, `→`, `×` (so `≢`, `¬` and `↔`) of these. A step that is not linear is handed over as a fact: see Products.antt.
+-- Read and proved: `≤ℤ`, `<ℤ`, `≡`, `Within`, the tests `leZ` and `ltZ` as definitions and branches have them, `≤`, `<`
+-- and `≡` of naturals, and `⊥`, `→`, `×` (so `≢`, `¬` and `↔`) of these. A step that is not linear is handed over as a fact: see Products.antt.
 use mathlib.Core.Path.{_≡_, refl, sym, _∙_, ap, ap₂}
-use mathlib.Core.Logic.{_↔_}
+use mathlib.Core.Logic.{_↔_, Iff·rfl}
 use mathlib.Core.Bool.{true, false}
 use mathlib.Core.List.{List, [], _∷_}
 use Prim.Native.Nat.{ℕ, zero, suc, _+_, _*_, _≤_, _<_}
@@ -113,6 +113,13 @@ module _ (ρ : List ℤ) (x : ℤ) (l : Denotes ρ x) where
   abbrev pub reads-within : (n : ℕ) → Reading ρ (Within n x)
   reads-within n = exactly ρ (within-iff n x (added value ρ) (taken value ρ) value-is)
 
+-- ---- statements about naturals stand as they are
+abbrev pub reads-nat-≤ : (ρ : List ℤ) (m n : ℕ) → Reading ρ (m ≤ n)
+reads-nat-≤ ρ m n = exactly ρ Iff·rfl
+
+abbrev pub reads-nat-≡ : (ρ : List ℤ) (m n : ℕ) → Reading ρ (m ≡ n)
+reads-nat-≡ ρ m n = exactly ρ Iff·rfl
+
 -- ---- connectives
 abbrev pub reads-⊥ : (ρ : List ℤ) → Reading ρ ⊥
 reads-⊥ ρ = record { over-ℕ = ⊥; to = λ x. x; from = λ x. x }
@@ -152,7 +159,7 @@ reads-le-true ρ x y r = via ρ (le-true x y) r
 abbrev pub reads-le-false : (ρ : List ℤ) (x y : ℤ) → Reading ρ (y <ℤ x) → Reading ρ (leZ x y ≡ false)
 reads-le-false ρ x y r = via ρ (le-false x y) r
 
-pub ruleset facts = (reads-lt-true, reads-lt-false, reads-le-true, reads-le-false, terms, reads-≤, reads-<, reads-≡, reads-within, reads-⊥, reads-×, reads-→, given-&, given)
+pub ruleset facts = (reads-lt-true, reads-lt-false, reads-le-true, reads-le-false, terms, reads-≤, reads-<, reads-≡, reads-within, reads-nat-≤, reads-nat-≡, reads-⊥, reads-×, reads-→, given-&, given)
 
 -- ---- the tool
 infixl 4 _&_

@@ -1,0 +1,85 @@
+-- The first best of a rising list is the best: it is a member, beats every other, and no other member does.
+use mathlib.Core.Path.{_≡_, refl, sym, ap}
+use mathlib.Core.Logic.{_⊎_, inl, inr}
+use mathlib.Core.Bool.{Bool, true, false, cond}
+use mathlib.Core.List.{List·Memᴰ·not-nil}
+use Rattle.ints.proofs.{ℤ, _≤ℤ_, _<ℤ_, ltZ, List, [], _∷_, arith, facts, lin, le-or-lt}
+use Rattle.ints.proofs.Order.{lt-asym, lt-ne, lt-true, lt-false, le-antisym, lt-le-trans, le-lt-trans}
+use Rattle.lists.specs.Members.{_∈_, here, there}
+use Rattle.lists.specs.Rising.{Rising, more}
+use Rattle.lists.specs.Best.{Beats, greater, earlier, Best, firstBest, bestOf}
+
+module _ {A : Type 0} (value : A → ℤ) {R : A → A → Type 0} where
+  -- what the best is or beats is worth no more
+  at-most : {m x : A} → (x ≡ m) ⊎ Beats value R m x → value x ≤ℤ value m
+  at-most {m} {x} (inl e) = lin (value x ∷ value m ∷ []) (ap value e) (search facts depth 20) (omega arith)
+  at-most {m} {x} (inr (greater h)) = lin (value x ∷ value m ∷ []) h (search facts depth 20) (omega arith)
+  at-most {m} {x} (inr (earlier e r)) = lin (value x ∷ value m ∷ []) e (search facts depth 20) (omega arith)
+
+  module _ (trans : (x y z : A) → R x y → R y z → R x z) where
+    -- a member x behind b that is worth no more than b
+    behind : {m b x : A} → value x ≤ℤ value b → R b x → (b ≡ m) ⊎ Beats value R m b → Beats value R m x
+    behind {m} {b} {x} h r k = go (le-or-lt (value m) (value x)) k
+      where
+        go : (value m ≤ℤ value x) ⊎ (value x <ℤ value m) → (b ≡ m) ⊎ Beats value R m b → Beats value R m x
+        go (inr l) k = greater l
+        go (inl l) (inl e) = earlier (le-antisym (value m) (value x) l (rw e at h)) (rw e at r)
+        go (inl l) (inr (greater g)) = greater (le-lt-trans (value x) (value b) (value m) h g)
+        go (inl l) (inr (earlier e g)) = earlier (le-antisym (value m) (value x) l (rw (sym e) at h)) (trans m b x g r)
+
+    -- the best of b, x, xs is that of x, xs where x is worth more than b, and else that of b, xs
+    pass : {b x m : A} {xs : List A} → value b <ℤ value x → Best value R (x ∷ xs) m → Best value R (b ∷ x ∷ xs) m
+    pass {b} {x} {m} {xs} l p = record { member = there (p .member); beats = beats′ }
+      where
+        beats′ : (y : A) → y ∈ b ∷ x ∷ xs → (y ≡ m) ⊎ Beats value R m y
+        beats′ y (here e) = inr (greater (rw e (lt-le-trans (value b) (value x) (value m) l (at-most (p .beats x (here refl))))))
+        beats′ y (there h) = p .beats y h
+
+    stay : {b x m : A} {xs : List A} → value x ≤ℤ value b → R b x → Best value R (b ∷ xs) m → Best value R (b ∷ x ∷ xs) m
+    stay {b} {x} {m} {xs} l r p = record { member = member′ (p .member); beats = beats′ }
+      where
+        member′ : m ∈ b ∷ xs → m ∈ b ∷ x ∷ xs
+        member′ (here e) = here e
+        member′ (there h) = there (there h)
+
+        beats′ : (y : A) → y ∈ b ∷ x ∷ xs → (y ≡ m) ⊎ Beats value R m y
+        beats′ y (here e) = p .beats y (here e)
+        beats′ y (there (here e)) = inr (rw e (behind l r (p .beats b (here refl))))
+        beats′ y (there (there h)) = p .beats y (there h)
+
+    choose : (t : Bool) {b x : A} {xs : List A} → ltZ (value b) (value x) ≡ t → R b x → Best value R (x ∷ xs) (firstBest value x xs) → Best value R (b ∷ xs) (firstBest value b xs) →
+        Best value R (b ∷ x ∷ xs) (firstBest value (cond t x b) xs)
+    choose true {b} {x} e r p q = pass (lt-true (value b) (value x) .0 e) p
+    choose false {b} {x} e r p q = stay (lt-false (value b) (value x) .0 e) r q
+
+    -- it is one
+    pub first-best : (b : A) (xs : List A) → Rising R (b ∷ xs) → Best value R (b ∷ xs) (firstBest value b xs)
+    unfolding firstBest
+    first-best b [] r = record { member = here refl; beats = only }
+      where
+        only : (y : A) → y ∈ b ∷ [] → (y ≡ b) ⊎ Beats value R b y
+        only y (here e) = inl e
+        only y (there h) = absurd (List·Memᴰ·not-nil h)
+    first-best b (x ∷ xs) (more g (more h r)) = choose (ltZ (value b) (value x)) refl (g x (here refl)) (first-best x xs (more h r)) (first-best b xs (more (λ y k. g y (there k)) r))
+
+  -- there is only one
+  module _ (asym : (x y : A) → R x y → R y x → ⊥) where
+    pub beats-asym : {x y : A} → Beats value R x y → Beats value R y x → ⊥
+    beats-asym {x} {y} (greater h) (greater k) = lt-asym (value x) (value y) k h
+    beats-asym {x} {y} (greater h) (earlier e r) = lt-ne (value y) (value x) h e
+    beats-asym {x} {y} (earlier e r) (greater k) = lt-ne (value x) (value y) k e
+    beats-asym {x} {y} (earlier e r) (earlier e′ r′) = asym x y r r′
+
+    pub best-unique : {xs : List A} {x y : A} → Best value R xs x → Best value R xs y → x ≡ y
+    best-unique {xs} {x} {y} p q = go (q .beats x (p .member)) (p .beats y (q .member))
+      where
+        go : (x ≡ y) ⊎ Beats value R y x → (y ≡ x) ⊎ Beats value R x y → x ≡ y
+        go (inl e) k = e
+        go (inr h) (inl e) = sym e
+        go (inr h) (inr k) = absurd (beats-asym k h)
+
+    -- so whatever is the best of a rising list is what `bestOf` finds
+    pub is-bestOf : (trans : (x y z : A) → R x y → R y z → R x z) (d : A) {xs : List A} {x : A} → Rising R xs → Best value R xs x → x ≡ bestOf value d xs
+    unfolding bestOf
+    is-bestOf trans d {xs = []} r p = absurd (List·Memᴰ·not-nil (p .member))
+    is-bestOf trans d {xs = y ∷ ys} r p = best-unique p (first-best trans y ys r)

@@ -1,0 +1,80 @@
+-- The members of a kept list, and that it rises with the list; what the tests of all members and of any say.
+use mathlib.Core.Path.{_≡_, refl, sym, _∙_, ap}
+use mathlib.Core.Logic.{_↔_, _⊎_, inl, inr, ⊎-elim}
+use mathlib.Core.Bool.{Bool, true, false, cond, _||_, false≢true, and-eq-true-iff}
+use mathlib.Core.List.{List, [], _∷_}
+use Rattle.lists.specs.Members.{_∈_, here, there}
+use Rattle.lists.specs.Rising.{Rising, none, more}
+use Rattle.lists.specs.Keep.{keep, every, any}
+
+module _ {A : Type 0} (p : A → Bool) where
+  -- ---- keep: one member more, which passes or does not
+  cond-out : (b : Bool) {x z : A} {ks : List A} → p x ≡ b → z ∈ cond b (x ∷ ks) ks → ((z ≡ x) × (p z ≡ true)) ⊎ (z ∈ ks)
+  cond-out true e (here e′) = inl (e′, ap p e′ ∙ e)
+  cond-out true e (there h) = inr h
+  cond-out false e h = inr h
+
+  cond-here : (b : Bool) {x z : A} (ks : List A) → p x ≡ b → p z ≡ true → z ≡ x → z ∈ cond b (x ∷ ks) ks
+  cond-here true ks e t e′ = here e′
+  cond-here false ks e t e′ = absurd (false≢true (sym e ∙ sym (ap p e′) ∙ t))
+
+  cond-there : (b : Bool) (x : A) {z : A} {ks : List A} → z ∈ ks → z ∈ cond b (x ∷ ks) ks
+  cond-there true x h = there h
+  cond-there false x h = h
+
+  cond-rising : (b : Bool) {R : A → A → Type 0} (x : A) {ks : List A} → ((y : A) → y ∈ ks → R x y) → Rising R ks → Rising R (cond b (x ∷ ks) ks)
+  cond-rising true x f r = more f r
+  cond-rising false x f r = r
+
+  keep-out : (xs : List A) {z : A} → z ∈ keep p xs → (z ∈ xs) × (p z ≡ true)
+  unfolding keep
+  keep-out (x ∷ xs) h = ⊎-elim (λ k. (here (k .0), k .1)) (λ k. let (m, t) = keep-out xs k in (there m, t)) (cond-out (p x) refl h)
+
+  keep-into : {xs : List A} {z : A} → z ∈ xs → p z ≡ true → z ∈ keep p xs
+  unfolding keep
+  keep-into (here {x} {xs} e) t = cond-here (p x) (keep p xs) refl t e
+  keep-into (there {x} h) t = cond-there (p x) x (keep-into h t)
+
+  pub in-keep : (xs : List A) (z : A) → z ∈ keep p xs ↔ ((z ∈ xs) × (p z ≡ true))
+  in-keep xs z = (keep-out xs, λ h. keep-into (h .0) (h .1))
+
+  pub rising-keep : {R : A → A → Type 0} {xs : List A} → Rising R xs → Rising R (keep p xs)
+  unfolding keep
+  rising-keep none = none
+  rising-keep (more {x} {xs} f r) = cond-rising (p x) x (λ y h. f y (keep-out xs h .0)) (rising-keep r)
+
+  -- ---- every
+  every-out : {xs : List A} {z : A} → every p xs ≡ true → z ∈ xs → p z ≡ true
+  unfolding every
+  every-out t (here {x} {xs} e) = ap p e ∙ and-eq-true-iff (p x) (every p xs) .0 t .0
+  every-out t (there {x} {xs} h) = every-out (and-eq-true-iff (p x) (every p xs) .0 t .1) h
+
+  every-into : (xs : List A) → ((z : A) → z ∈ xs → p z ≡ true) → every p xs ≡ true
+  unfolding every
+  every-into [] f = refl
+  every-into (x ∷ xs) f = and-eq-true-iff (p x) (every p xs) .1 (f x (here refl), every-into xs (λ z h. f z (there h)))
+
+  pub every-iff : (xs : List A) → (every p xs ≡ true) ↔ ((z : A) → z ∈ xs → p z ≡ true)
+  every-iff xs = (λ t z h. every-out t h, every-into xs)
+
+  -- ---- any
+  or-out : (a b : Bool) → (a || b) ≡ true → (a ≡ true) ⊎ (b ≡ true)
+  or-out true b e = inl e
+  or-out false b e = inr e
+
+  or-right : (a b : Bool) → b ≡ true → (a || b) ≡ true
+  or-right true b e = refl
+  or-right false b e = e
+
+  any-out : (xs : List A) → any p xs ≡ true → (z : A) × (z ∈ xs) × (p z ≡ true)
+  unfolding any
+  any-out [] t = absurd (false≢true t)
+  any-out (x ∷ xs) t = ⊎-elim (λ e. (x, here refl, e)) (λ e. let (z, h, q) = any-out xs e in (z, there h, q)) (or-out (p x) (any p xs) t)
+
+  any-into : {xs : List A} {z : A} → z ∈ xs → p z ≡ true → any p xs ≡ true
+  unfolding any
+  any-into (here {x} {xs} e) t = rw (sym (ap p e) ∙ t)
+  any-into (there {x} {xs} h) t = or-right (p x) (any p xs) (any-into h t)
+
+  pub any-iff : (xs : List A) → (any p xs ≡ true) ↔ ((z : A) × (z ∈ xs) × (p z ≡ true))
+  any-iff xs = (any-out xs, λ h. any-into (h .1) (h .2))

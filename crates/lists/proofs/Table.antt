@@ -1,0 +1,49 @@
+-- The members of a table, that it rises where f does, and its length.
+use mathlib.Core.Path.{_≡_, refl, ap}
+use mathlib.Core.Logic.{_↔_}
+use Prim.Native.Nat.{ℕ, zero, suc, _+_, _≤_, _<_}
+use native.Mathlib.Omega.{arith}
+use lib.ListN.{length}
+use Rattle.lists.specs.Members.{_∈_, here, there}
+use Rattle.lists.specs.Rising.{Rising, none, more}
+use Rattle.lists.specs.Table.{tableFrom, table}
+
+module _ {A : Type 0} (f : ℕ → A) where
+  from-out : (i n : ℕ) {z : A} → z ∈ tableFrom f i n → (k : ℕ) × (i ≤ k) × (k < i + n) × (z ≡ f k)
+  unfolding tableFrom
+  from-out i (suc n) (here e) = (i, omega arith, omega arith, e)
+  from-out i (suc n) (there h) = let (k, a, b, e) = from-out (suc i) n h in (k, omega arith, omega arith, e)
+
+  from-into : (i n j : ℕ) → j < n → f (i + j) ∈ tableFrom f i n
+  unfolding tableFrom
+  from-into i zero j h = absurd (omega arith)
+  from-into i (suc n) zero h = let e : i + 0 ≡ i = omega arith in here (ap f e)
+  from-into i (suc n) (suc j) h = let e : i + suc j ≡ suc i + j = omega arith in there {xs = tableFrom f (suc i) n} (rw e (from-into (suc i) n j (omega arith)))
+
+  from-rising : {R : A → A → Type 0} (i n : ℕ) → ((j k : ℕ) → j < k → k < i + n → R (f j) (f k)) → Rising R (tableFrom f i n)
+  unfolding tableFrom
+  from-rising i zero m = none
+  from-rising {R} i (suc n) m = more {x = f i} (λ y h. let (k, a, b, e) = from-out (suc i) n h in rw e (m i k (omega arith) (omega arith))) (from-rising (suc i) n (λ j k h g. m j k h (omega arith)))
+
+  from-length : (i n : ℕ) → length (tableFrom f i n) ≡ n
+  unfolding tableFrom
+  from-length i zero = refl
+  from-length i (suc n) = ap suc (from-length (suc i) n)
+
+  pub in-table : (n : ℕ) (z : A) → z ∈ table f n ↔ ((k : ℕ) × (k < n) × (z ≡ f k))
+  unfolding table
+  in-table n z = (λ h. let (k, a, b, e) = from-out 0 n h in (k, omega arith, e), into)
+    where
+      into : (k : ℕ) × (k < n) × (z ≡ f k) → z ∈ tableFrom f 0 n
+      into (k, h, e) = rw (e, sym-add k) (from-into 0 n k h)
+        where
+          sym-add : (k : ℕ) → k ≡ 0 + k
+          sym-add k = omega arith
+
+  pub rising-table : {R : A → A → Type 0} (n : ℕ) → ((j k : ℕ) → j < k → k < n → R (f j) (f k)) → Rising R (table f n)
+  unfolding table
+  rising-table n m = from-rising 0 n (λ j k h g. m j k h (omega arith))
+
+  pub length-table : (n : ℕ) → length (table f n) ≡ n
+  unfolding table
+  length-table n = from-length 0 n

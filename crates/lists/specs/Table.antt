@@ -1,0 +1,12 @@
+-- The list f 0, f 1, .., f (n − 1).
+use mathlib.Core.List.{List, [], _∷_}
+use Prim.Native.Nat.{ℕ, zero, suc}
+
+-- n members, from f i on
+unfoldable pub tableFrom : {A : Type 0} → (ℕ → A) → ℕ → ℕ → List A
+tableFrom f i zero = []
+tableFrom f i (suc n) = let rest = tableFrom f (suc i) n in f i ∷ rest
+
+unfoldable pub table : {A : Type 0} → (ℕ → A) → ℕ → List A
+unfolding tableFrom
+table f n = tableFrom f 0 n

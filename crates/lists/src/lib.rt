@@ -1,0 +1,1 @@
+//! Lists, as mathematics only: there is no code here.
