@@ -1,17 +1,18 @@
 -- The laws of division rounded down. Callers go by these and never by the text of specs/Floor.antt.
 use mathlib.Core.Path.{_≡_, refl, sym, _∙_, ap}
-use mathlib.Core.Logic.{_↔_, Iff·trans}
+use mathlib.Core.Logic.{_↔_, _⊎_, inl, inr, _≢_, Iff·trans}
 use mathlib.Core.List.{List, [], _∷_}
 use Prim.Native.Nat.{ℕ, suc, _+_, _*_, _/_, _<_}
 use native.Mathlib.Nat.{div-add-mod, mod-lt}
 use native.Mathlib.Omega.{arith}
 use lib.IntN.{ℤ, pos, negsuc, negℤ, _+ℤ_, _*ℤ_}
 use lib.Signed.{_≤ℤ_, _<ℤ_, shrZ}
+use Rattle.ints.specs.Within.{Within}
 use Rattle.ints.specs.Floor.{floorDiv, floorMod, ceilDiv}
 use Rattle.ints.proofs.Difference.{le-parts, lt-parts}
-use Rattle.ints.proofs.Order.{le-trans}
+use Rattle.ints.proofs.Order.{le-trans, le-or-lt}
 use Rattle.ints.proofs.Linear.{facts, lin, lin₀, _&_}
-use Rattle.ints.proofs.Products.{mul-le, cancel-lt}
+use Rattle.ints.proofs.Products.{prod, mul-le, cancel-lt}
 
 -- ---- a natural divisor
 shr-range : (n : ℤ) (m : ℕ) → 0 < m → ((pos m *ℤ shrZ n m) ≤ℤ n) × (n <ℤ (pos m *ℤ shrZ n m +ℤ pos m))
@@ -105,3 +106,26 @@ floor-mono n m d h l = floor-iff m d (floorDiv n d) h .0 (le-trans (d *ℤ floor
 
 pub floor-mono-neg : (n m d : ℤ) → d <ℤ pos 0 → n ≤ℤ m → floorDiv m d ≤ℤ floorDiv n d
 floor-mono-neg n m d h l = floor-iff-neg n d (floorDiv m d) h .0 (le-trans n m (d *ℤ floorDiv m d) l (floor-range-neg m d h .0))
+
+-- ---- the quotient is no larger than the dividend
+within-pos : {A : ℕ} (n d : ℤ) → pos 0 <ℤ d → Within A n → Within A (floorDiv n d)
+within-pos {A} n d h w = go (le-or-lt (pos 0) (floorDiv n d))
+  where
+    one : pos 1 ≤ℤ d
+    one = lin (d ∷ []) h (search facts depth 20) (omega arith)
+
+    go : (pos 0 ≤ℤ floorDiv n d) ⊎ (floorDiv n d <ℤ pos 0) → Within A (floorDiv n d)
+    go (inl l) = lin (n ∷ d ∷ floorDiv n d ∷ []) (floor-range n d h & w & prod one l & l) (search facts depth 20) (omega arith)
+    go (inr l) =
+        let down : floorDiv n d ≤ℤ negsuc 0 = lin (floorDiv n d ∷ []) l (search facts depth 20) (omega arith) in
+        lin (n ∷ d ∷ floorDiv n d ∷ []) (floor-range n d h & w & prod one down & l) (search facts depth 20) (omega arith)
+
+pub floor-within : {A : ℕ} (n d : ℤ) → d ≢ pos 0 → Within A n → Within A (floorDiv n d)
+floor-within {A} n d nz w = go (le-or-lt d (pos 0))
+  where
+    go : (d ≤ℤ pos 0) ⊎ (pos 0 <ℤ d) → Within A (floorDiv n d)
+    go (inl l) =
+        let neg : d <ℤ pos 0 = lin (d ∷ []) (l & nz) (search facts depth 20) (omega arith) in
+        let w′ : Within A (negℤ n) = lin (n ∷ []) w (search facts depth 20) (omega arith) in
+        rw (floor-turned n d neg) (within-pos (negℤ n) (negℤ d) (turned d neg) w′)
+    go (inr l) = within-pos n d l w

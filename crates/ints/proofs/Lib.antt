@@ -50,8 +50,8 @@ pub mod Divides
 pub mod Gcd
 -- u·x ≡ v (mod d)
 pub mod Congruence
--- the limits of the division working
-pub mod Limits
+-- what callers of the division working go by
+pub mod Answers
 -- each tool at work
 pub mod Examples
 pub use lib.IntN.{ℤ, pos, negsuc, negℤ, natAbs, _+ℤ_, _-ℤ_, _*ℤ_}

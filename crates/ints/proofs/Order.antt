@@ -3,11 +3,11 @@
 use mathlib.Core.Path.{_≡_, refl}
 use mathlib.Core.Logic.{_↔_, _⊎_, inl, inr}
 use mathlib.Core.Bool.{Bool, true, false, not, true≢false, false≢true}
-use Prim.Native.Nat.{ℕ}
+use Prim.Native.Nat.{ℕ, zero, suc}
 use native.Mathlib.Omega.{arith}
 use lib.Dec.{T, leb→le, ltb→lt, lt→ltb, nleb→lt}
 use lib.Arith.{le→nltb, lt→nleb}
-use lib.IntN.{ℤ, pos, negsuc}
+use lib.IntN.{ℤ, pos, negsuc, negℤ, natAbs}
 use lib.Signed.{_≤ℤ_, _<ℤ_, ltZ, leZ, leZ-yes, ltZ-yes, ltZ-no}
 use Rattle.ints.proofs.Difference.{differences, le-parts, for2, for3}
 
@@ -34,6 +34,16 @@ le-lt-trans = for3 _ (λ a b c d e f. simp differences (omega arith))
 
 pub nat-nonneg : (n : ℕ) → pos 0 ≤ℤ pos n
 nat-nonneg n = le-parts (pos 0) (pos n) .1 (omega arith)
+
+-- a number by its size
+pub abs-nonneg : (x : ℤ) → pos 0 ≤ℤ x → x ≡ pos (natAbs x)
+abs-nonneg (pos n) h = refl
+abs-nonneg (negsuc n) h = absurd (h .le)
+
+pub abs-nonpos : (x : ℤ) → x ≤ℤ pos 0 → x ≡ negℤ (pos (natAbs x))
+abs-nonpos (pos zero) h = refl
+abs-nonpos (pos (suc n)) h = absurd (omega (arith, le-parts (pos (suc n)) (pos 0) .0 h))
+abs-nonpos (negsuc n) h = refl
 
 -- one of the two
 pub le-or-lt : (x y : ℤ) → (x ≤ℤ y) ⊎ (y <ℤ x)

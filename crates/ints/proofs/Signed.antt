@@ -10,13 +10,13 @@ use mathlib.Core.Logic.{_↔_, _≢_}
 use mathlib.Core.List.{List}
 use Prim.Native.Nat.{ℕ, zero, suc, _+_, _≤_, _<_, _^_}
 use native.Mathlib.Omega.{arith}
-use lib.Dec.{eqb}
+use lib.Dec.{T, eqb}
 use borrow.Author.Tests.{ne-eqb}
 use lib.IntN.{ℤ, pos, negsuc, natAbs}
-use lib.Signed.{quotZ, remZ, mag}
+use lib.Signed.{_≤ℤ_, quotZ, remZ, mag, nonNeg, yes-nonNeg}
 use mir.Syntax.{Width, w8, w16, w32, w64, w128}
-use mir.Val.{SFits, hbits, toZ, ofZ}
-use mir.Facts.{toZ-ofZ}
+use mir.Val.{SFits, Fits, hbits, toZ, ofZ}
+use mir.Facts.{toZ-ofZ, fits-natAbs}
 use Rattle.ints.proofs.Difference.{negPart, _⊖_, differences}
 use Rattle.ints.proofs.Ring.{Denotes}
 use Rattle.ints.proofs.Linear.{Reading, exactly, added, taken, value, value-is, facts}
@@ -65,3 +65,11 @@ bits-zero w (pos a) f = refl
 bits-zero w (negsuc a) f =
     let some : 0 < ofZ w (negsuc a) = bits-nonzero w (negsuc a) f (λ e. omega (arith, ap negPart e)) in
     ne-eqb (ofZ w (negsuc a)) 0 (λ e. omega arith) ∙ sym (ne-eqb (suc a) 0 (λ e. omega arith))
+
+-- ---- a cast to an unsigned number of the same width, `x as u64`
+pub casts : (w : Width) (x : ℤ) → SFits w x → pos 0 ≤ℤ x → T (nonNeg x) × Fits w (natAbs x)
+casts w8 x f h = (yes-nonNeg h, fits-natAbs tt f)
+casts w16 x f h = (yes-nonNeg h, fits-natAbs tt f)
+casts w32 x f h = (yes-nonNeg h, fits-natAbs tt f)
+casts w64 x f h = (yes-nonNeg h, fits-natAbs tt f)
+casts w128 x f h = (yes-nonNeg h, fits-natAbs tt f)

@@ -1,10 +1,11 @@
 -- Document 01, "Workings": what division answers for every pair of numbers.
 use mathlib.Core.Bool.{Bool, not, _&&_, cond}
+use mathlib.Core.Logic.{_≢_}
 use Prim.Native.Nat.{ℕ}
 use lib.Dec.{eqb}
-use lib.IntN.{ℤ, natAbs}
+use lib.IntN.{ℤ, pos, natAbs}
 use Rattle.reasons.specs.Numbers.{numberOf, rowOf}
-use Rattle.ints.specs.Within.{isWithin}
+use Rattle.ints.specs.Within.{Within, isWithin}
 use Rattle.ints.specs.Floor.{floorDiv}
 use Rattle.ints.specs.declared.Division.{Division}
 use Rattle.ints.specs.declared.Division.the-variants.{Quotient, Refused}
@@ -23,6 +24,12 @@ abbrev pub limit : ℕ
 limit = 4000000000000000000
 
 -- "Both arguments lie within ±4,000,000,000,000,000,000, divisor not 0."
+pub record InLimits (n d : ℤ) : Type 0 where
+  pub dividend : Within limit n
+  pub divisor : Within limit d
+  pub not-zero : d ≢ pos 0
+
+-- the same as a test
 abbrev pub inLimits : ℤ → ℤ → Bool
 inLimits n d = isWithin limit n && (isWithin limit d && not (eqb (natAbs d) 0))
 

@@ -4,8 +4,8 @@ use mathlib.Core.Bool.{true, false}
 use borrow.Author.Needs.{needs}
 use mir.Facts.{toZ-ofZ}
 use Rattle.ints.specs.Floor.{floorDiv}
-use Rattle.ints.specs.Division.{inLimits, quotient}
-use Rattle.ints.proofs.Limits.{InLimits, in-limits}
+use Rattle.ints.specs.Division.{InLimits, inLimits, quotient}
+use Rattle.ints.proofs.Answers.{in-limits-out}
 use Rattle.ints.proofs.divide.Statement.{statement}
 use Rattle.ints.proofs.divide.Tie as tie
 
@@ -16,7 +16,7 @@ floor-div-requires : tie.Need-floor-div-requires
 floor-div-requires c κs =
     let s = c .before .before in
     let inside : inLimits (s .args .n) (s .args .d) ≡ true = rw (toZ-ofZ (s .fits .n), toZ-ofZ (s .fits .d)) at (sym (c .before .in-limits .ensures) ∙ c .if1 .taken) in
-    let k : InLimits (s .args .n) (s .args .d) = in-limits (s .args .n) (s .args .d) inside in
+    let k : InLimits (s .args .n) (s .args .d) = in-limits-out (s .args .n) (s .args .d) inside in
     rw (toZ-ofZ (s .fits .n), toZ-ofZ (s .fits .d)) (k .dividend, k .not-zero)
 
 returns : tie.Need-returns

@@ -1,0 +1,58 @@
+-- What callers of the division working go by: it gives the floor within the limits, and is refused outside them.
+use mathlib.Core.Path.{_≡_, refl, sym, _∙_, ap}
+use mathlib.Core.Bool.{Bool, true, false, not, _&&_, cond, and-eq-true-iff, false≢true}
+use native.Mathlib.Omega.{arith}
+use Prim.Native.Nat.{ℕ}
+use lib.Dec.{eqb}
+use lib.IntN.{ℤ, pos, negsuc, natAbs}
+use borrow.Author.Tests.{eq-eqb, ne-eqb}
+use Rattle.ints.specs.Within.{isWithin}
+use Rattle.ints.specs.Floor.{floorDiv}
+use Rattle.ints.specs.Division.{quotient, refused, limit, InLimits, inLimits, division}
+use Rattle.ints.proofs.Within.{within-true}
+
+-- ---- the test and the limits
+abs-zero : (x : ℤ) → natAbs x ≡ 0 → x ≡ pos 0
+abs-zero (pos n) e = ap pos e
+abs-zero (negsuc n) e = absurd (omega arith)
+
+pub in-limits-out : (n d : ℤ) → inLimits n d ≡ true → InLimits n d
+in-limits-out n d e =
+    let (a, bc) = and-eq-true-iff (isWithin limit n) (isWithin limit d && not (eqb (natAbs d) 0)) .0 e in
+    let (b, c) = and-eq-true-iff (isWithin limit d) (not (eqb (natAbs d) 0)) .0 bc in
+    record {
+      dividend = within-true limit n .0 a;
+      divisor = within-true limit d .0 b;
+      not-zero = λ z. false≢true (sym (ap not (eq-eqb (natAbs d) 0 (ap natAbs z))) ∙ c);
+    }
+
+pub in-limits-into : (n d : ℤ) → InLimits n d → inLimits n d ≡ true
+in-limits-into n d h =
+    and-eq-true-iff (isWithin limit n) (isWithin limit d && not (eqb (natAbs d) 0)) .1 (
+      within-true limit n .1 (h .dividend),
+      and-eq-true-iff (isWithin limit d) (not (eqb (natAbs d) 0)) .1
+          (within-true limit d .1 (h .divisor), ap not (ne-eqb (natAbs d) 0 (λ z. h .not-zero (abs-zero d z)))),
+    )
+
+-- ---- the answer
+pub gives-floor : (n d : ℤ) → InLimits n d → division n d ≡ quotient (floorDiv n d)
+gives-floor n d h = rw (in-limits-into n d h)
+
+pub refuses : (n d : ℤ) → ¬ InLimits n d → division n d ≡ refused 9 0
+refuses n d h = go (inLimits n d) refl
+  where
+    go : (b : Bool) → inLimits n d ≡ b → cond b (quotient (floorDiv n d)) (refused 9 0) ≡ refused 9 0
+    go true e = absurd (h (in-limits-out n d e))
+    go false e = refl
+
+-- a quotient is the floor, and the arguments were within the limits
+pub record IsQuotient (n d q : ℤ) : Type 0 where
+  pub inside : InLimits n d
+  pub is : q ≡ floorDiv n d
+
+pub quotient-is : (n d q : ℤ) → quotient q ≡ division n d → IsQuotient n d q
+quotient-is n d q e = go (inLimits n d) refl e
+  where
+    go : (b : Bool) → inLimits n d ≡ b → quotient q ≡ cond b (quotient (floorDiv n d)) (refused 9 0) → IsQuotient n d q
+    go true t e = record { inside = in-limits-out n d t; is = cc }
+    go false t e = absurd (let z : _≡_ {A = ℕ} 0 1 = cc in omega arith)

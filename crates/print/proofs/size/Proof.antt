@@ -1,0 +1,61 @@
+-- `print::size` meets its contract: for x below 0, −1 − x is a natural number, and one less than the size of x.
+use mathlib.Core.Path.{_≡_, _∙_, ap}
+use borrow.Author.Needs.{needs}
+use Prim.Native.Nat.{_+_}
+use lib.Signed.{natAbs-le}
+use mir.Syntax.{w64}
+use mir.Val.{SFits, toZ, ofZ}
+use mir.Facts.{toZ-ofZ}
+use Rattle.ints.proofs.{ℤ, pos, negsuc, natAbs, _-ℤ_, _≤ℤ_, _<ℤ_, [], _∷_, arith, facts, lin, _&_, signed}
+use Rattle.ints.proofs.Order.{lt-true, lt-false, abs-nonneg, abs-nonpos}
+use Rattle.ints.proofs.Signed.{casts}
+use Rattle.print.proofs.size.Statement.{statement}
+use Rattle.print.proofs.size.Tie as tie
+use Rattle.print.proofs.size.Reads as reads
+use Rattle.print.proofs.size.Lts as lts
+
+-- of a number below 0
+module _ (x : ℤ) (h : x <ℤ pos 0) where
+  rest-nonneg : pos 0 ≤ℤ (negsuc 0 -ℤ x)
+  rest-nonneg = lin (x ∷ []) h (search facts depth 20) (omega arith)
+
+  one-less : natAbs (negsuc 0 -ℤ x) + 1 ≡ natAbs x
+  one-less =
+      let low : x ≤ℤ pos 0 = lin (x ∷ []) h (search facts depth 20) (omega arith) in
+      lin (x ∷ pos (natAbs x) ∷ pos (natAbs (negsuc 0 -ℤ x)) ∷ []) (abs-nonpos x low & abs-nonneg (negsuc 0 -ℤ x) rest-nonneg) (search facts depth 20) (omega arith)
+
+module _ (c : lts.Then1 reads.Pre reads.Post) where
+  abbrev x : ℤ
+  x = c .before .args .x
+
+  below : x <ℤ pos 0
+  below = lt-true x (pos 0) .0 (rw (toZ-ofZ (c .before .fits .x)) at (c .if1 .taken))
+
+  fits-rest : SFits w64 (negsuc 0 -ℤ x)
+  fits-rest = lin (x ∷ []) (below & c .before .fits .x) (search signed depth 20) (omega arith)
+
+  rest-is : toZ w64 (ofZ w64 (negsuc 0 -ℤ toZ w64 (ofZ w64 x))) ≡ negsuc 0 -ℤ x
+  rest-is = ap (λ t. toZ w64 (ofZ w64 (negsuc 0 -ℤ t))) (toZ-ofZ (c .before .fits .x)) ∙ toZ-ofZ fits-rest
+
+sub-result : tie.Need-sub-result
+sub-result c = rw (toZ-ofZ (c .before .fits .x)) (fits-rest c)
+
+cast-result : tie.Need-cast-result
+cast-result c = rw (rest-is c) (casts w64 (negsuc 0 -ℤ x c) (fits-rest c) (rest-nonneg (x c) (below c)))
+
+add-result : tie.Need-add-result
+add-result c = rw (rest-is c, one-less (x c) (below c)) record { fits = omega (arith, natAbs-le (x c) (c .before .fits .x .sfits)) }
+
+cast-result-2 : tie.Need-cast-result-2
+cast-result-2 c =
+    let s = c .before in
+    rw (toZ-ofZ (s .fits .x)) (casts w64 (s .args .x) (s .fits .x) (lt-false (s .args .x) (pos 0) .0 (rw (toZ-ofZ (s .fits .x)) at (c .if1 .left))))
+
+returns : tie.Need-returns
+returns c = rw (rest-is c) (one-less (x c) (below c))
+
+returns-2 : tie.Need-returns-2
+returns-2 c = search needs
+
+pub size-spec : {M : Type 1} → statement M
+size-spec = tie.close (tie.spec sub-result cast-result add-result cast-result-2 returns returns-2)

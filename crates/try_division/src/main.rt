@@ -1,0 +1,167 @@
+//! Runs the division working: the vectors of document 01 and of its limits, then many pairs against the inequality that
+//! defines the floor. The expected output is worked out by hand: a quotient of each sign, the reason at each limit, and
+//! 101 × 24 small and 20,000 pseudo-random pairs.
+
+ghost use mathlib.Core.Path.{_≡_};
+ghost use Prim.Native.Nat.{_*_, _≤_, _<_};
+ghost use Rattle.ints.specs.Floor.{floorDiv};
+ghost use Rattle.ints.specs.Division.{InLimits};
+use ints::Division;
+
+fn main() {
+    vectors();
+    print::text(b"small pairs ");
+    print::count(small_pairs());
+    print::text(b" agree\nrandom pairs ");
+    print::count(random_pairs());
+    print::text(b" agree\n");
+}
+
+fn vectors() {
+    show(-7, 2);
+    show(7, -2);
+    show(-8, 2);
+    show(-7, -2);
+    show(0, -1);
+    show(4000000000000000000, 1);
+    show(4000000000000000000, -1);
+    show(-4000000000000000000, 1);
+    show(-4000000000000000000, -1);
+    show(-1, 4000000000000000000);
+    show(1, -4000000000000000000);
+    show(4000000000000000001, 1);
+    show(-4000000000000000001, 1);
+    show(1, 4000000000000000001);
+    show(1, -4000000000000000001);
+    show(1, 0);
+    show(-9223372036854775808, -1);
+}
+
+// A line for a pair: the quotient, or the reason and the row.
+fn show(n: i64, d: i64) {
+    print::number(n);
+    print::text(b" by ");
+    print::number(d);
+    match ints::divide(n, d) {
+        Division::Quotient(q) => {
+            print::text(b" is ");
+            print::number(q);
+        }
+        Division::Refused(r) => {
+            print::text(b" refused ");
+            print::number(r.number() as i64);
+            print::text(b" row ");
+            print::number(r.row() as i64);
+        }
+    }
+    print::text(b"\n");
+}
+
+// Every dividend from -50 to 50 by every divisor from -12 to 12 but 0; how many agree.
+fn small_pairs() -> u64 {
+    let mut agree: u64 = 0;
+    let mut i: u64 = 0;
+    while i < 2525 {
+        agree += small_pair(i);
+        i += 1;
+    }
+    agree
+}
+
+fn small_pair(i: u64) -> u64
+    requires { ⌜ i < 2525 ⌝ }
+    ensures { λ r. ⌜ r ≤ 1 ⌝ }
+{
+    let d = centred(i % 25, 12);
+    if d == 0 {
+        return 0;
+    }
+    agrees(centred(i / 25, 50), d)
+}
+
+// Pairs of many sizes and both signs; how many agree.
+fn random_pairs() -> u64 {
+    let mut agree: u64 = 0;
+    let mut seed: u64 = 88172645463325252;
+    let mut i: u64 = 0;
+    while i < 20000 {
+        agree += random_pair(seed, i);
+        seed = next(next(seed));
+        i += 1;
+    }
+    agree
+}
+
+// A divisor of 0 is taken for -1.
+fn random_pair(seed: u64, i: u64) -> u64
+    ensures { λ r. ⌜ r ≤ 1 ⌝ }
+{
+    let n = random(seed, i % 5);
+    let d = random(next(seed), i / 5 % 5);
+    if d == 0 {
+        return agrees(n, -1);
+    }
+    agrees(n, d)
+}
+
+// Marsaglia's xorshift on 64 bits.
+fn next(x: u64) -> u64 {
+    let a = x ^ (x << 13);
+    let b = a ^ (a >> 7);
+    b ^ (b << 17)
+}
+
+fn random(seed: u64, kind: u64) -> i64 {
+    let most = largest(kind);
+    centred(seed % (2 * most + 1), most)
+}
+
+fn largest(kind: u64) -> u64
+    ensures { λ r. ⌜ r ≤ 4000000000000000000 ⌝ }
+{
+    match kind {
+        0 => 9,
+        1 => 1000,
+        2 => 1000000000,
+        3 => 2000000000000000,
+        _ => 4000000000000000000,
+    }
+}
+
+// From 0..=2·most to -most..=most.
+fn centred(x: u64, most: u64) -> i64
+    requires { ⌜ most ≤ 4000000000000000000 ⌝ }
+    requires { ⌜ x ≤ 2 * most ⌝ }
+{
+    x as i64 - most as i64
+}
+
+// 1 where the quotient of n by d is the floor; else 0, and the pair is printed.
+fn agrees(n: i64, d: i64) -> u64
+    ensures { λ r. ⌜ r ≤ 1 ⌝ }
+{
+    match ints::divide(n, d) {
+        Division::Quotient(q) => {
+            if is_floor(n, d, q) {
+                return 1;
+            }
+        }
+        Division::Refused(_) => {}
+    }
+    print::text(b"disagree: ");
+    show(n, d);
+    0
+}
+
+// The inequality that defines the floor: d·q is the last multiple of d that is not past n.
+fn is_floor(n: i64, d: i64, q: i64) -> bool
+    requires { ⌜ InLimits n d ⌝ }
+    requires { ⌜ q ≡ floorDiv n d ⌝ }
+{
+    let p = d * q;
+    if 0 < d {
+        if p <= n { n < p + d } else { false }
+    } else {
+        if n <= p { p + d < n } else { false }
+    }
+}
