@@ -3,7 +3,7 @@
 //! 101 × 24 small and 20,000 pseudo-random pairs.
 
 ghost use mathlib.Core.Path.{_≡_};
-ghost use Prim.Native.Nat.{_*_, _≤_, _<_};
+ghost use Prim.Native.Nat.{_*_, _≤_};
 ghost use Rattle.ints.specs.Floor.{floorDiv};
 ghost use Rattle.ints.specs.Division.{InLimits};
 use ints::Division;
@@ -11,9 +11,9 @@ use ints::Division;
 fn main() {
     vectors();
     print::text(b"small pairs ");
-    print::count(small_pairs());
+    print::count(agreeing(true, 2525));
     print::text(b" agree\nrandom pairs ");
-    print::count(random_pairs());
+    print::count(agreeing(false, 20000));
     print::text(b" agree\n");
 }
 
@@ -57,43 +57,44 @@ fn show(n: i64, d: i64) {
     print::text(b"\n");
 }
 
-// Every dividend from -50 to 50 by every divisor from -12 to 12 but 0; how many agree.
-fn small_pairs() -> u64 {
-    let mut agree: u64 = 0;
-    let mut i: u64 = 0;
-    while i < 2525 {
-        agree += small_pair(i);
-        i += 1;
-    }
-    agree
-}
-
-fn small_pair(i: u64) -> u64
-    requires { ⌜ i < 2525 ⌝ }
-    ensures { λ r. ⌜ r ≤ 1 ⌝ }
+// How many of the first pairs agree: the small ones, or the pseudo-random ones.
+fn agreeing(small: bool, pairs: u64) -> u64
+    requires { ⌜ pairs ≤ 1000000 ⌝ }
 {
-    let d = centred(i % 25, 12);
-    if d == 0 {
-        return 0;
-    }
-    agrees(centred(i / 25, 50), d)
-}
-
-// Pairs of many sizes and both signs; how many agree.
-fn random_pairs() -> u64 {
     let mut agree: u64 = 0;
     let mut seed: u64 = 88172645463325252;
     let mut i: u64 = 0;
-    while i < 20000 {
-        agree += random_pair(seed, i);
+    while i < pairs {
+        agree += pair(small, i, seed);
         seed = next(next(seed));
         i += 1;
     }
     agree
 }
 
-// A divisor of 0 is taken for -1.
-fn random_pair(seed: u64, i: u64) -> u64
+// 1 where pair i agrees, else 0.
+fn pair(small: bool, i: u64, seed: u64) -> u64
+    ensures { λ r. ⌜ r ≤ 1 ⌝ }
+{
+    if small {
+        return small_pair(i);
+    }
+    random_pair(i, seed)
+}
+
+// In turn each dividend from -50 to 50 by each divisor from -12 to 12; a divisor of 0 does not count.
+fn small_pair(i: u64) -> u64
+    ensures { λ r. ⌜ r ≤ 1 ⌝ }
+{
+    let d = centred(i % 25, 12);
+    if d == 0 {
+        return 0;
+    }
+    agrees(centred(i / 25 % 101, 50), d)
+}
+
+// Sizes by i, numbers by the seed; a divisor of 0 is taken for -1.
+fn random_pair(i: u64, seed: u64) -> u64
     ensures { λ r. ⌜ r ≤ 1 ⌝ }
 {
     let n = random(seed, i % 5);

@@ -1,21 +1,21 @@
--- `try_division::random_pairs` meets its contract: at most one pair a turn agrees, so the count fits.
+-- `try_division::agreeing` meets its contract: at most one pair a turn agrees, so the count fits.
 use Prim.Native.Nat.{_-_, _≤_}
 use native.Mathlib.Omega.{arith}
 use borrow.Author.Needs.{needs}
-use Rattle.try_division.proofs.random_pairs.Statement.{statement}
-use Rattle.try_division.proofs.random_pairs.Tie as tie
+use Rattle.try_division.proofs.agreeing.Statement.{statement}
+use Rattle.try_division.proofs.agreeing.Tie as tie
 
 abbrev Inv-loop : tie.InvT-loop
-Inv-loop agree₀ seed₀ i₀ agree seed i = (agree ≤ i) × (i ≤ 20000)
+Inv-loop small pairs agree₀ seed₀ i₀ agree seed i = (agree ≤ i) × (i ≤ pairs)
 
 abbrev μ-loop : tie.MeasureT-loop
-μ-loop agree₀ seed₀ i₀ agree seed i = 20000 - i
+μ-loop small pairs agree₀ seed₀ i₀ agree seed i = pairs - i
 
 loop-holds : tie.Need-loop-holds Inv-loop μ-loop
 loop-holds c = omega arith
 
-random-pair-requires : tie.Need-random-pair-requires Inv-loop μ-loop
-random-pair-requires c κs = search needs
+pair-requires : tie.Need-pair-requires Inv-loop μ-loop
+pair-requires c κs = search needs
 
 add-agree : tie.Need-add-agree Inv-loop μ-loop
 add-agree c = omega arith
@@ -38,14 +38,14 @@ loop-again c = omega arith
 returns : tie.Need-returns Inv-loop μ-loop
 returns c = omega arith
 
-pub random-pairs-spec : {M : Type 1} → statement M
-random-pairs-spec =
+pub agreeing-spec : {M : Type 1} → statement M
+agreeing-spec =
     tie.close
     (tie.spec
     Inv-loop
     μ-loop
     loop-holds
-    random-pair-requires
+    pair-requires
     add-agree
     next-requires
     next-requires-2
