@@ -14,7 +14,7 @@ use Rattle.ints.specs.Floor.{floorDiv}
 use Rattle.ints.proofs.Ring.{ring, terms}
 use Rattle.ints.proofs.Linear.{lin, lin₀, _&_, facts}
 use Rattle.ints.proofs.Products.{prod, within-mul}
-use Rattle.ints.proofs.Signed.{signed}
+use Rattle.ints.proofs.Signed.{signed, bits-equal}
 use Rattle.ints.proofs.Gcd.{gcd}
 use Rattle.ints.proofs.Congruence.{period}
 
@@ -82,6 +82,10 @@ fits x y h k = lin (x ∷ y ∷ []) (within-mul h k) (search signed depth 20) (o
 -- what a branch on two locals leaves, and the difference that it makes safe
 branch : (x y : ℤ) → SFits w32 x → SFits w32 y → ltZ (toZ w32 (ofZ w32 x)) (toZ w32 (ofZ w32 y)) ≡ true → SFits w64 (toZ w32 (ofZ w32 y) -ℤ x) × (pos 1 ≤ℤ (y -ℤ x))
 branch x y f g t = lin (x ∷ y ∷ []) (f & g & t) (search signed depth 20) (omega arith)
+
+-- two locals that a test found equal
+equal : (x y : ℤ) → SFits w32 x → SFits w32 y → ofZ w32 x ≡ ofZ w32 y → x -ℤ y ≡ pos 0
+equal x y f g t = lin (x ∷ y ∷ []) (bits-equal w32 x y f g .0 t) (search facts depth 20) (omega arith)
 
 -- ---- gcd and congruence: 6·x ≡ 4 (mod −10) has a solution in every class of 5
 gcds : (gcd (pos 1000000000000000000) (pos 999999999999999989) ≡ pos 1) × (gcd (pos 6) (negsuc 9) ≡ pos 2) × (gcd (pos 0) (pos 0) ≡ pos 0)

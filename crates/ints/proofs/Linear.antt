@@ -7,7 +7,8 @@
 -- normalisation, and `omega` proves that. An atom `pos k` is read as the natural k, so what is known of k serves too.
 --
 -- Read and proved: `≤ℤ`, `<ℤ`, `≡`, `Within`, the tests `leZ` and `ltZ` as definitions and branches have them, `≤`, `<`
--- and `≡` of naturals, and `⊥`, `→`, `×` (so `≢`, `¬` and `↔`) of these. A step that is not linear is handed over as a fact: see Products.antt.
+-- and `≡` of naturals, and `⊥`, `→`, `×` (so `≢`, `¬` and `↔`) of these; a fact may not be an `↔`, of which a half is
+-- handed over. A step that is not linear is handed over as a fact too: see Products.antt.
 use mathlib.Core.Path.{_≡_, refl, sym, _∙_, ap, ap₂}
 use mathlib.Core.Logic.{_↔_, Iff·rfl}
 use mathlib.Core.Bool.{true, false}

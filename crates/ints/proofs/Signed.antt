@@ -8,15 +8,15 @@
 use mathlib.Core.Path.{_≡_, refl, sym, _∙_, ap, ap₂}
 use mathlib.Core.Logic.{_↔_, _≢_}
 use mathlib.Core.List.{List}
-use Prim.Native.Nat.{ℕ, zero, suc, _+_, _≤_, _<_, _^_}
+use Prim.Native.Nat.{ℕ, suc, _+_, _≤_, _<_, _^_}
 use native.Mathlib.Omega.{arith}
-use lib.Dec.{T, eqb}
+use lib.Dec.{eqb}
 use borrow.Author.Tests.{ne-eqb}
 use lib.IntN.{ℤ, pos, negsuc, natAbs}
-use lib.Signed.{_≤ℤ_, quotZ, remZ, mag, nonNeg, yes-nonNeg}
+use lib.Signed.{quotZ, remZ, mag}
 use mir.Syntax.{Width, w8, w16, w32, w64, w128}
-use mir.Val.{SFits, Fits, hbits, toZ, ofZ}
-use mir.Facts.{toZ-ofZ, fits-natAbs}
+use mir.Val.{SFits, hbits, toZ, ofZ}
+use mir.Facts.{toZ-ofZ, sfits-lit}
 use Rattle.ints.proofs.Difference.{negPart, _⊖_, differences}
 use Rattle.ints.proofs.Ring.{Denotes}
 use Rattle.ints.proofs.Linear.{Reading, exactly, added, taken, value, value-is, facts}
@@ -44,32 +44,24 @@ rem-bits ρ w n d f g l = record { expr = l .expr; is = l .is ∙ sym (ap₂ rem
 
 pub ruleset signed = (facts, reads-fits, bits, quot-bits, rem-bits)
 
--- ---- bits and 0
-zero-bits : (w : Width) → toZ w 0 ≡ pos 0
-zero-bits w8 = refl
-zero-bits w16 = refl
-zero-bits w32 = refl
-zero-bits w64 = refl
-zero-bits w128 = refl
+-- ---- the tests `x == y` and `x == 0`, which are made on the bits
+pub bits-equal : (w : Width) (x y : ℤ) → SFits w x → SFits w y → (ofZ w x ≡ ofZ w y) ↔ (x ≡ y)
+bits-equal w x y f g = (λ e. sym (toZ-ofZ f) ∙ ap (toZ w) e ∙ toZ-ofZ g, ap (ofZ w))
 
+fits-zero : (w : Width) → SFits w (pos 0)
+fits-zero w8 = sfits-lit tt
+fits-zero w16 = sfits-lit tt
+fits-zero w32 = sfits-lit tt
+fits-zero w64 = sfits-lit tt
+fits-zero w128 = sfits-lit tt
+
+-- what `/` and `%` ask of their divisor
 pub bits-nonzero : (w : Width) (x : ℤ) → SFits w x → x ≢ pos 0 → 0 < ofZ w x
-bits-nonzero w x f h = go (ofZ w x) refl
-  where
-    go : (b : ℕ) → ofZ w x ≡ b → 0 < b
-    go zero e = absurd (h (sym (toZ-ofZ f) ∙ ap (toZ w) e ∙ zero-bits w))
-    go (suc b) e = omega arith
+bits-nonzero w x f h = let some : ofZ w x ≢ 0 = λ e. h (bits-equal w x (pos 0) f (fits-zero w) .0 e) in omega arith
 
--- the test `x == 0`, which is made on the bits
+-- the result of `x == 0`, as a definition has it
 pub bits-zero : (w : Width) (x : ℤ) → SFits w x → eqb (ofZ w x) 0 ≡ eqb (natAbs x) 0
 bits-zero w (pos a) f = refl
 bits-zero w (negsuc a) f =
     let some : 0 < ofZ w (negsuc a) = bits-nonzero w (negsuc a) f (λ e. omega (arith, ap negPart e)) in
     ne-eqb (ofZ w (negsuc a)) 0 (λ e. omega arith) ∙ sym (ne-eqb (suc a) 0 (λ e. omega arith))
-
--- ---- a cast to an unsigned number of the same width, `x as u64`
-pub casts : (w : Width) (x : ℤ) → SFits w x → pos 0 ≤ℤ x → T (nonNeg x) × Fits w (natAbs x)
-casts w8 x f h = (yes-nonNeg h, fits-natAbs tt f)
-casts w16 x f h = (yes-nonNeg h, fits-natAbs tt f)
-casts w32 x f h = (yes-nonNeg h, fits-natAbs tt f)
-casts w64 x f h = (yes-nonNeg h, fits-natAbs tt f)
-casts w128 x f h = (yes-nonNeg h, fits-natAbs tt f)

@@ -37,13 +37,17 @@ fn in_limits(n: i64, d: i64) -> bool
     false
 }
 
+const LOWEST: i64 = -4000000000000000000;
+
+const HIGHEST: i64 = 4000000000000000000;
+
 fn in_range(x: i64) -> bool
     ensures { λ r. ⌜ r ≡ isWithin limit x ⌝ }
 {
-    if x < -4000000000000000000 {
+    if x < LOWEST {
         return false;
     }
-    x <= 4000000000000000000
+    x <= HIGHEST
 }
 
 // `/` rounds towards zero: where the remainder and the divisor have opposite signs, the floor is one less.

@@ -10,7 +10,7 @@ use Rattle.lists.specs.Keep.{keep}
 use Rattle.lists.specs.Range.{range}
 use Rattle.lists.specs.Best.{Best, bestOf}
 use Rattle.lists.specs.Sums.{sum, sumOf}
-use Rattle.lists.proofs.Rising.{same}
+use Rattle.lists.proofs.Rising.{same-members}
 use Rattle.lists.proofs.Keep.{in-keep, rising-keep}
 use Rattle.lists.proofs.Range.{rising-range}
 use Rattle.lists.proofs.Best.{first-best}
@@ -18,7 +18,7 @@ use Rattle.lists.proofs.Sums.{regroup}
 
 -- two tests, in either order, keep the same list: both rise, and they have the same members
 either-order : (p q : ℤ → Bool) (lo hi : ℤ) → keep p (keep q (range lo hi)) ≡ keep q (keep p (range lo hi))
-either-order p q lo hi = same lt-asym (rising p q) (rising q p) (λ z. (both p q z, both q p z))
+either-order p q lo hi = same-members lt-asym (rising p q) (rising q p) (λ z. (both p q z, both q p z))
   where
     rising : (p q : ℤ → Bool) → Rising _<ℤ_ (keep p (keep q (range lo hi)))
     rising p q = rising-keep p (rising-keep q (rising-range lo hi))

@@ -2,13 +2,12 @@
 use mathlib.Core.Path.{_≡_, _∙_, ap}
 use borrow.Author.Needs.{needs}
 use Prim.Native.Nat.{_+_}
-use lib.Signed.{natAbs-le}
+use lib.Signed.{natAbs-le, yes-nonNeg}
 use mir.Syntax.{w64}
 use mir.Val.{SFits, toZ, ofZ}
-use mir.Facts.{toZ-ofZ}
+use mir.Facts.{toZ-ofZ, fits-natAbs}
 use Rattle.ints.proofs.{ℤ, pos, negsuc, natAbs, _-ℤ_, _≤ℤ_, _<ℤ_, [], _∷_, arith, facts, lin, _&_, signed}
 use Rattle.ints.proofs.Order.{lt-true, lt-false, abs-nonneg, abs-nonpos}
-use Rattle.ints.proofs.Signed.{casts}
 use Rattle.print.proofs.size.Statement.{statement}
 use Rattle.print.proofs.size.Tie as tie
 use Rattle.print.proofs.size.Reads as reads
@@ -41,7 +40,7 @@ sub-result : tie.Need-sub-result
 sub-result c = rw (toZ-ofZ (c .before .fits .x)) (fits-rest c)
 
 cast-result : tie.Need-cast-result
-cast-result c = rw (rest-is c) (casts w64 (negsuc 0 -ℤ x c) (fits-rest c) (rest-nonneg (x c) (below c)))
+cast-result c = rw (rest-is c) (yes-nonNeg (rest-nonneg (x c) (below c)), fits-natAbs tt (fits-rest c))
 
 add-result : tie.Need-add-result
 add-result c = rw (rest-is c, one-less (x c) (below c)) record { fits = omega (arith, natAbs-le (x c) (c .before .fits .x .sfits)) }
@@ -49,7 +48,8 @@ add-result c = rw (rest-is c, one-less (x c) (below c)) record { fits = omega (a
 cast-result-2 : tie.Need-cast-result-2
 cast-result-2 c =
     let s = c .before in
-    rw (toZ-ofZ (s .fits .x)) (casts w64 (s .args .x) (s .fits .x) (lt-false (s .args .x) (pos 0) .0 (rw (toZ-ofZ (s .fits .x)) at (c .if1 .left))))
+    let low : pos 0 ≤ℤ s .args .x = lt-false (s .args .x) (pos 0) .0 (rw (toZ-ofZ (s .fits .x)) at (c .if1 .left)) in
+    rw (toZ-ofZ (s .fits .x)) (yes-nonNeg low, fits-natAbs tt (s .fits .x))
 
 returns : tie.Need-returns
 returns c = rw (rest-is c) (one-less (x c) (below c))
