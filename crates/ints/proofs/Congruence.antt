@@ -64,8 +64,14 @@ period u d = floorDiv d (gcd u d)
 
 period-is : (u d : ℤ) → d ≢ pos 0 → bezout u d .right .factor ≡ period u d
 unfolding period
-period-is u d nz = cancel (gcd u d) (bezout u d .right .factor) (floorDiv d (gcd u d)) (gcd-nonzero u d nz)
-    (sym (bezout u d .right .exact) ∙ sym (floor-exact d (gcd u d) (gcd-nonzero u d nz) (bezout u d .right)))
+period-is u d nz =
+    let g≢0 : gcd u d ≢ pos 0 = gcd-nonzero u d nz in
+    cancel (gcd u d) (bezout u d .right .factor) (floorDiv d (gcd u d)) g≢0
+    (sym (bezout u d .right .exact) ∙ sym (floor-exact d (gcd u d) g≢0 (bezout u d .right)))
+
+-- with one solution x₀ the others are those of its class
+pub class : (u v d x₀ : ℤ) → d ≢ pos 0 → Congruent d (u *ℤ x₀) v → (x : ℤ) → Congruent d (u *ℤ x) v ↔ Congruent (period u d) x x₀
+class u v d x₀ nz h x = rw (sym (period-is u d nz)) (one-class (bezout u d) (gcd-nonzero u d nz) v x₀ x h)
 
 pub data Solutions (u v d : ℤ) : Type 0 where
   none : ((x : ℤ) → Congruent d (u *ℤ x) v → ⊥) → Solutions u v d
@@ -74,12 +80,12 @@ pub data Solutions (u v d : ℤ) : Type 0 where
 pub solutions : (u v d : ℤ) → d ≢ pos 0 → Solutions u v d
 solutions u v d nz = go (ℤ-discrete (floorMod v (gcd u d)) (pos 0))
   where
-    nonzero : gcd u d ≢ pos 0
-    nonzero = gcd-nonzero u d nz
+    g≢0 : gcd u d ≢ pos 0
+    g≢0 = gcd-nonzero u d nz
 
     go : Dec (floorMod v (gcd u d) ≡ pos 0) → Solutions u v d
-    go (no e) = none (λ x h. e (divides-iff v (gcd u d) nonzero .0 (solvable (bezout u d) nonzero v x h)))
+    go (no e) = none (λ x h. e (divides-iff v (gcd u d) g≢0 .0 (solvable (bezout u d) g≢0 v x h)))
     go (yes e) =
-        let h : gcd u d ∣ℤ v = divides-iff v (gcd u d) nonzero .1 e in
+        let h : gcd u d ∣ℤ v = divides-iff v (gcd u d) g≢0 .1 e in
         let x₀ : ℤ = bezout u d .x *ℤ h .factor in
-        class-of x₀ (λ x. rw (sym (period-is u d nz)) (one-class (bezout u d) nonzero v x₀ x (solution (bezout u d) nonzero v h)))
+        class-of x₀ (class u v d x₀ nz (solution (bezout u d) g≢0 v h))

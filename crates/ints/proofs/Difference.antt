@@ -27,7 +27,8 @@ a ⊖ b = subℕ a b
 sub-parts : (a b : ℕ) → posPart (subℕ a b) + b ≡ negPart (subℕ a b) + a
 sub-parts a b = go (ltb a b) (ltb→lt a b) (nltb→le a b)
   where
-    go : (c : Bool) → (T c → a < b) → (T (not c) → b ≤ a) → posPart (cond c (negsuc (b - suc a)) (pos (a - b))) + b ≡ negPart (cond c (negsuc (b - suc a)) (pos (a - b))) + a
+    go : (c : Bool) → (T c → a < b) → (T (not c) → b ≤ a) →
+        posPart (cond c (negsuc (b - suc a)) (pos (a - b))) + b ≡ negPart (cond c (negsuc (b - suc a)) (pos (a - b))) + a
     go true f g = let h : a < b = f tt in omega arith
     go false f g = let h : b ≤ a = g tt in omega arith
 
@@ -46,7 +47,8 @@ neg-parts (pos zero) = refl
 neg-parts (pos (suc a)) = omega arith
 neg-parts (negsuc a) = omega arith
 
-mul-parts : (x y : ℤ) → posPart (x *ℤ y) + (posPart x * negPart y + negPart x * posPart y) ≡ negPart (x *ℤ y) + (posPart x * posPart y + negPart x * negPart y)
+mul-parts : (x y : ℤ) →
+    posPart (x *ℤ y) + (posPart x * negPart y + negPart x * posPart y) ≡ negPart (x *ℤ y) + (posPart x * posPart y + negPart x * negPart y)
 mul-parts (pos a) (pos b) = omega arith
 mul-parts (pos a) (negsuc b) = omega (arith, neg-parts (pos (a * suc b)))
 mul-parts (negsuc a) (pos b) = omega (arith, neg-parts (pos (suc a * b)))
@@ -73,13 +75,22 @@ lt-parts (negsuc a) (negsuc b) = (λ h. omega (arith, ltb→lt b a (h .lt)), λ 
 
 -- ---- the laws of a difference; `simp differences` leaves a statement over ℕ
 pub ⊖-eq : (a b c d : ℕ) → (a ⊖ b ≡ c ⊖ d) ↔ (a + d ≡ c + b)
-⊖-eq a b c d = (λ e. omega (arith, ⊖-parts a b, ⊖-parts c d, ap posPart e, ap negPart e), λ e. by-parts (a ⊖ b) (c ⊖ d) (omega (arith, ⊖-parts a b, ⊖-parts c d)))
+⊖-eq a b c d = (
+  λ e. omega (arith, ⊖-parts a b, ⊖-parts c d, ap posPart e, ap negPart e),
+  λ e. by-parts (a ⊖ b) (c ⊖ d) (omega (arith, ⊖-parts a b, ⊖-parts c d)),
+)
 
 pub ⊖-le : (a b c d : ℕ) → ((a ⊖ b) ≤ℤ (c ⊖ d)) ↔ (a + d ≤ c + b)
-⊖-le a b c d = (λ h. omega (arith, le-parts (a ⊖ b) (c ⊖ d) .0 h, ⊖-parts a b, ⊖-parts c d), λ h. le-parts (a ⊖ b) (c ⊖ d) .1 (omega (arith, ⊖-parts a b, ⊖-parts c d)))
+⊖-le a b c d = (
+  λ h. omega (arith, le-parts (a ⊖ b) (c ⊖ d) .0 h, ⊖-parts a b, ⊖-parts c d),
+  λ h. le-parts (a ⊖ b) (c ⊖ d) .1 (omega (arith, ⊖-parts a b, ⊖-parts c d)),
+)
 
 pub ⊖-lt : (a b c d : ℕ) → ((a ⊖ b) <ℤ (c ⊖ d)) ↔ (a + d < c + b)
-⊖-lt a b c d = (λ h. omega (arith, lt-parts (a ⊖ b) (c ⊖ d) .0 h, ⊖-parts a b, ⊖-parts c d), λ h. lt-parts (a ⊖ b) (c ⊖ d) .1 (omega (arith, ⊖-parts a b, ⊖-parts c d)))
+⊖-lt a b c d = (
+  λ h. omega (arith, lt-parts (a ⊖ b) (c ⊖ d) .0 h, ⊖-parts a b, ⊖-parts c d),
+  λ h. lt-parts (a ⊖ b) (c ⊖ d) .1 (omega (arith, ⊖-parts a b, ⊖-parts c d)),
+)
 
 pub ⊖-add : (a b c d : ℕ) → (a ⊖ b) +ℤ (c ⊖ d) ≡ (a + c) ⊖ (b + d)
 ⊖-add a b c d = by-parts _ _ (omega (arith, add-parts (a ⊖ b) (c ⊖ d), ⊖-parts a b, ⊖-parts c d, ⊖-parts (a + c) (b + d)))

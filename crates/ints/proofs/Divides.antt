@@ -1,5 +1,5 @@
 -- The laws of divisibility.
-use mathlib.Core.Path.{_≡_, refl, sym, _∙_, ap}
+use mathlib.Core.Path.{_≡_, sym, _∙_, ap}
 use mathlib.Core.Logic.{_↔_, _⊎_, inl, inr, _≢_}
 use mathlib.Core.List.{[], _∷_}
 use native.Mathlib.Omega.{arith}
@@ -10,9 +10,6 @@ use Rattle.ints.specs.Divides.{_∣ℤ_, Congruent}
 use Rattle.ints.proofs.Order.{le-or-lt}
 use Rattle.ints.proofs.Linear.{facts, lin, lin₀, _&_}
 use Rattle.ints.proofs.Floor.{div-mod, div-mod-unique, div-mod-unique-neg}
-
-pub divides-self : (d k : ℤ) → d ∣ℤ (d *ℤ k)
-divides-self d k = record { factor = k; exact = refl }
 
 pub divides-add : {d m n : ℤ} → d ∣ℤ m → d ∣ℤ n → d ∣ℤ (m +ℤ n)
 divides-add {d} {m} {n} h k = record {
@@ -45,7 +42,9 @@ floor-exact n d nz h = ap (λ t. d *ℤ t) (sym (is (le-or-lt d (pos 0)))) ∙ s
     whole = lin (n ∷ d ∷ h .factor ∷ []) (h .exact) (search facts depth 20) (omega arith)
 
     is : (d ≤ℤ pos 0) ⊎ (pos 0 <ℤ d) → h .factor ≡ floorDiv n d
-    is (inl l) = let neg : d <ℤ pos 0 = lin (d ∷ []) (l & nz) (search facts depth 20) (omega arith) in div-mod-unique-neg n d (h .factor) (pos 0) neg whole neg (lin₀ [] (search facts depth 20) (omega arith)) .0
+    is (inl l) =
+        let neg : d <ℤ pos 0 = lin (d ∷ []) (l & nz) (search facts depth 20) (omega arith) in
+        div-mod-unique-neg n d (h .factor) (pos 0) neg whole neg (lin₀ [] (search facts depth 20) (omega arith)) .0
     is (inr l) = div-mod-unique n d (h .factor) (pos 0) l whole (lin₀ [] (search facts depth 20) (omega arith)) l .0
 
 pub divides-iff : (n d : ℤ) → d ≢ pos 0 → (d ∣ℤ n) ↔ (floorMod n d ≡ pos 0)
@@ -55,11 +54,20 @@ divides-iff n d nz = (to, from)
     to h = lin (n ∷ d ∷ floorDiv n d ∷ floorMod n d ∷ []) (floor-exact n d nz h & div-mod n d) (search facts depth 20) (omega arith)
 
     from : floorMod n d ≡ pos 0 → d ∣ℤ n
-    from e = record { factor = floorDiv n d; exact = lin (n ∷ d ∷ floorDiv n d ∷ floorMod n d ∷ []) (e & div-mod n d) (search facts depth 20) (omega arith) }
+    from e = record {
+      factor = floorDiv n d;
+      exact = lin (n ∷ d ∷ floorDiv n d ∷ floorMod n d ∷ []) (e & div-mod n d) (search facts depth 20) (omega arith);
+    }
 
 -- ---- one class modulo d has one member from 0 to d − 1
 pub mod-congruent : (n d : ℤ) → Congruent d n (floorMod n d)
-mod-congruent n d = record { factor = floorDiv n d; exact = lin (n ∷ d ∷ floorDiv n d ∷ floorMod n d ∷ []) (div-mod n d) (search facts depth 20) (omega arith) }
+mod-congruent n d = record {
+  factor = floorDiv n d;
+  exact = lin (n ∷ d ∷ floorDiv n d ∷ floorMod n d ∷ []) (div-mod n d) (search facts depth 20) (omega arith);
+}
 
 pub mod-least : (n d x : ℤ) → pos 0 ≤ℤ x → x <ℤ d → Congruent d n x → x ≡ floorMod n d
-mod-least n d x a b h = div-mod-unique n d (h .factor) x (lin (d ∷ x ∷ []) (a & b) (search facts depth 20) (omega arith)) (lin (n ∷ d ∷ x ∷ h .factor ∷ []) (h .exact) (search facts depth 20) (omega arith)) a b .1
+mod-least n d x a b h =
+    let above : pos 0 <ℤ d = lin (d ∷ x ∷ []) (a & b) (search facts depth 20) (omega arith) in
+    let sum : d *ℤ h .factor +ℤ x ≡ n = lin (n ∷ d ∷ x ∷ h .factor ∷ []) (h .exact) (search facts depth 20) (omega arith) in
+    div-mod-unique n d (h .factor) x above sum a b .1

@@ -1,22 +1,25 @@
 -- Each tool at work. The must-fail edits turn statements of this file false: a tool that proved one of them would be none.
-use mathlib.Core.Path.{_≡_, refl}
+use mathlib.Core.Path.{_≡_, refl, sym}
 use mathlib.Core.Logic.{_↔_, _≢_}
 use mathlib.Core.Bool.{true, false}
 use mathlib.Core.List.{[], _∷_}
 use Prim.Native.Nat.{ℕ, _<_}
 use native.Mathlib.Omega.{arith}
 use lib.IntN.{ℤ, pos, negsuc, _+ℤ_, _-ℤ_, _*ℤ_}
-use lib.Signed.{_≤ℤ_, _<ℤ_, leZ, ltZ}
+use lib.Signed.{_≤ℤ_, _<ℤ_, leZ, ltZ, leZ-yes, ltZ-yes}
 use mir.Syntax.{w32, w64}
 use mir.Val.{SFits, toZ, ofZ}
 use Rattle.ints.specs.Within.{Within}
+use Rattle.ints.specs.Divides.{Congruent}
+use Rattle.ints.specs.Floor.{floorDiv, floorMod}
 use Rattle.ints.specs.Floor.{floorDiv}
 use Rattle.ints.proofs.Ring.{ring, terms}
 use Rattle.ints.proofs.Linear.{lin, lin₀, _&_, facts}
 use Rattle.ints.proofs.Products.{prod, within-mul}
 use Rattle.ints.proofs.Signed.{signed, bits-equal}
 use Rattle.ints.proofs.Gcd.{gcd}
-use Rattle.ints.proofs.Congruence.{period}
+use Rattle.ints.proofs.Congruence.{period, class}
+use Rattle.ints.proofs.Divides.{mod-least}
 
 -- ---- ring
 square : (x y : ℤ) → (x +ℤ y) *ℤ (x +ℤ y) ≡ x *ℤ x +ℤ pos 2 *ℤ x *ℤ y +ℤ y *ℤ y
@@ -87,11 +90,25 @@ branch x y f g t = lin (x ∷ y ∷ []) (f & g & t) (search signed depth 20) (om
 equal : (x y : ℤ) → SFits w32 x → SFits w32 y → ofZ w32 x ≡ ofZ w32 y → x -ℤ y ≡ pos 0
 equal x y f g t = lin (x ∷ y ∷ []) (bits-equal w32 x y f g .0 t) (search facts depth 20) (omega arith)
 
--- ---- gcd and congruence: 6·x ≡ 4 (mod −10) has a solution in every class of 5
+-- ---- gcd and congruence
 gcds : (gcd (pos 1000000000000000000) (pos 999999999999999989) ≡ pos 1) × (gcd (pos 6) (negsuc 9) ≡ pos 2) × (gcd (pos 0) (pos 0) ≡ pos 0)
 unfolding gcd
 gcds = (refl, refl, refl)
 
-periods : period (pos 6) (pos 10) ≡ pos 5
+-- 6·x ≡ 4 (mod 10): 4 is a solution, and 10 / gcd(6, 10) is 5
+five : period (pos 6) (pos 10) ≡ pos 5
 unfolding period gcd floorDiv
-periods = refl
+five = refl
+
+six : (x : ℤ) → Congruent (pos 10) (pos 6 *ℤ x) (pos 4) ↔ Congruent (pos 5) x (pos 4)
+six x =
+    let ten : pos 10 ≢ pos 0 = lin₀ [] (search facts depth 20) (omega arith) in
+    rw (sym five) (class (pos 6) (pos 4) (pos 10) (pos 4) ten record { factor = pos 2; exact = refl } x)
+
+-- and 4 is the least of the class that −1 is in
+least : pos 4 ≡ floorMod (negsuc 0) (pos 5)
+least = mod-least (negsuc 0) (pos 5) (pos 4) (leZ-yes tt) (ltZ-yes tt) record { factor = negsuc 0; exact = refl }
+
+-- 6·x ≡ 3 (mod 10) has none: 2 divides both sides of it but 3
+odd : (x : ℤ) → Congruent (pos 10) (pos 6 *ℤ x) (pos 3) → ⊥
+odd x h = lin (x ∷ h .factor ∷ []) (h .exact) (search facts depth 20) (omega arith)

@@ -16,8 +16,14 @@ use Rattle.ints.proofs.Products.{prod, mul-le, cancel-lt}
 
 -- ---- a natural divisor
 shr-range : (n : ℤ) (m : ℕ) → 0 < m → ((pos m *ℤ shrZ n m) ≤ℤ n) × (n <ℤ (pos m *ℤ shrZ n m +ℤ pos m))
-shr-range (pos a) m h = (le-parts (pos (m * (a / m))) (pos a) .1 (omega (arith, div-add-mod a m)), lt-parts (pos a) (pos (m * (a / m) + m)) .1 (omega (arith, div-add-mod a m, mod-lt a h)))
-shr-range (negsuc a) m h = turn (pos (suc a)) (pos (suc (a / m))) (pos m) (le-parts (pos (suc a)) (pos (m * suc (a / m))) .1 (omega (arith, div-add-mod a m, mod-lt a h))) (lt-parts (pos (m * suc (a / m))) (pos (suc a + m)) .1 (omega (arith, div-add-mod a m)))
+shr-range (pos a) m h = (
+  le-parts (pos (m * (a / m))) (pos a) .1 (omega (arith, div-add-mod a m)),
+  lt-parts (pos a) (pos (m * (a / m) + m)) .1 (omega (arith, div-add-mod a m, mod-lt a h)),
+)
+shr-range (negsuc a) m h =
+    turn (pos (suc a)) (pos (suc (a / m))) (pos m)
+    (le-parts (pos (suc a)) (pos (m * suc (a / m))) .1 (omega (arith, div-add-mod a m, mod-lt a h)))
+    (lt-parts (pos (m * suc (a / m))) (pos (suc a + m)) .1 (omega (arith, div-add-mod a m)))
   where
     turn : (n q m : ℤ) → n ≤ℤ (m *ℤ q) → (m *ℤ q) <ℤ (n +ℤ m) → ((m *ℤ negℤ q) ≤ℤ negℤ n) × (negℤ n <ℤ (m *ℤ negℤ q +ℤ m))
     turn n q m h k = lin (n ∷ q ∷ m ∷ []) (h & k) (search facts depth 20) (omega arith)
@@ -38,7 +44,9 @@ turned : (d : ℤ) → d <ℤ pos 0 → pos 0 <ℤ negℤ d
 turned d h = lin (d ∷ []) h (search facts depth 20) (omega arith)
 
 pub floor-range-neg : (n d : ℤ) → d <ℤ pos 0 → (n ≤ℤ (d *ℤ floorDiv n d)) × ((d *ℤ floorDiv n d +ℤ d) <ℤ n)
-floor-range-neg n d h = rw (floor-turned n d h) (lin (n ∷ d ∷ floorDiv (negℤ n) (negℤ d) ∷ []) (floor-range (negℤ n) (negℤ d) (turned d h)) (search facts depth 20) (omega arith))
+floor-range-neg n d h =
+    let ρ : List ℤ = n ∷ d ∷ floorDiv (negℤ n) (negℤ d) ∷ [] in
+    rw (floor-turned n d h) (lin ρ (floor-range (negℤ n) (negℤ d) (turned d h)) (search facts depth 20) (omega arith))
 
 -- ---- quotient and remainder
 pub div-mod : (n d : ℤ) → d *ℤ floorDiv n d +ℤ floorMod n d ≡ n
@@ -57,7 +65,8 @@ floor-iff n d k h = (to, from)
   where
     to : (d *ℤ k) ≤ℤ n → k ≤ℤ floorDiv n d
     to l =
-        let less : (d *ℤ k) <ℤ (d *ℤ (floorDiv n d +ℤ pos 1)) = lin (n ∷ d ∷ k ∷ floorDiv n d ∷ []) (floor-range n d h & l) (search facts depth 20) (omega arith) in
+        let less : (d *ℤ k) <ℤ (d *ℤ (floorDiv n d +ℤ pos 1)) =
+        lin (n ∷ d ∷ k ∷ floorDiv n d ∷ []) (floor-range n d h & l) (search facts depth 20) (omega arith) in
         lin (k ∷ floorDiv n d ∷ []) (cancel-lt d k (floorDiv n d +ℤ pos 1) h less) (search facts depth 20) (omega arith)
 
     from : k ≤ℤ floorDiv n d → (d *ℤ k) ≤ℤ n
@@ -71,7 +80,8 @@ ceil-iff n d k h =
     Iff·trans (lin₀ ρ (search facts depth 20) (omega arith)) (Iff·trans (floor-iff (negℤ n) d (negℤ k) h) (lin₀ ρ (search facts depth 20) (omega arith)))
 
 pub floor-iff-neg : (n d k : ℤ) → d <ℤ pos 0 → (n ≤ℤ (d *ℤ k)) ↔ (k ≤ℤ floorDiv n d)
-floor-iff-neg n d k h = rw (floor-turned n d h) (Iff·trans (lin₀ (n ∷ d ∷ k ∷ []) (search facts depth 20) (omega arith)) (floor-iff (negℤ n) (negℤ d) k (turned d h)))
+floor-iff-neg n d k h =
+    rw (floor-turned n d h) (Iff·trans (lin₀ (n ∷ d ∷ k ∷ []) (search facts depth 20) (omega arith)) (floor-iff (negℤ n) (negℤ d) k (turned d h)))
 
 pub ceil-iff-neg : (n d k : ℤ) → d <ℤ pos 0 → ((d *ℤ k) ≤ℤ n) ↔ (ceilDiv n d ≤ℤ k)
 unfolding ceilDiv
@@ -83,22 +93,32 @@ ceil-iff-neg n d k h =
 -- a quotient between the two ends of its range
 squeezed : (n d q : ℤ) → pos 0 <ℤ d → (d *ℤ q) ≤ℤ n → n <ℤ (d *ℤ q +ℤ d) → q ≡ floorDiv n d
 squeezed n d q h a b =
-    let less : (d *ℤ floorDiv n d) <ℤ (d *ℤ (q +ℤ pos 1)) = lin (n ∷ d ∷ q ∷ floorDiv n d ∷ []) (floor-range n d h & b) (search facts depth 20) (omega arith) in
+    let less : (d *ℤ floorDiv n d) <ℤ (d *ℤ (q +ℤ pos 1)) =
+    lin (n ∷ d ∷ q ∷ floorDiv n d ∷ []) (floor-range n d h & b) (search facts depth 20) (omega arith) in
     lin (q ∷ floorDiv n d ∷ []) (floor-iff n d q h .0 a & cancel-lt d (floorDiv n d) (q +ℤ pos 1) h less) (search facts depth 20) (omega arith)
 
 -- the quotient decides the remainder
 rest : (n d q r : ℤ) → d *ℤ q +ℤ r ≡ n → q ≡ floorDiv n d → (q ≡ floorDiv n d) × (r ≡ floorMod n d)
-rest n d q r e f = (f, lin (n ∷ d ∷ q ∷ r ∷ floorDiv n d ∷ floorMod n d ∷ []) (e & ap (λ t. d *ℤ t) f & div-mod n d) (search facts depth 20) (omega arith))
+rest n d q r e f = (
+  f,
+  lin (n ∷ d ∷ q ∷ r ∷ floorDiv n d ∷ floorMod n d ∷ []) (e & ap (λ t. d *ℤ t) f & div-mod n d) (search facts depth 20) (omega arith),
+)
 
 pub div-mod-unique : (n d q r : ℤ) → pos 0 <ℤ d → d *ℤ q +ℤ r ≡ n → pos 0 ≤ℤ r → r <ℤ d → (q ≡ floorDiv n d) × (r ≡ floorMod n d)
 div-mod-unique n d q r h e a b =
     let ρ : List ℤ = n ∷ d ∷ q ∷ r ∷ [] in
-    rest n d q r e (squeezed n d q h (lin ρ (e & a) (search facts depth 20) (omega arith)) (lin ρ (e & b) (search facts depth 20) (omega arith)))
+    let is : q ≡ floorDiv n d =
+    squeezed n d q h (lin ρ (e & a) (search facts depth 20) (omega arith)) (lin ρ (e & b) (search facts depth 20) (omega arith)) in
+    rest n d q r e is
 
 pub div-mod-unique-neg : (n d q r : ℤ) → d <ℤ pos 0 → d *ℤ q +ℤ r ≡ n → d <ℤ r → r ≤ℤ pos 0 → (q ≡ floorDiv n d) × (r ≡ floorMod n d)
 div-mod-unique-neg n d q r h e a b =
     let ρ : List ℤ = n ∷ d ∷ q ∷ r ∷ [] in
-    rest n d q r e (squeezed (negℤ n) (negℤ d) q (turned d h) (lin ρ (e & b) (search facts depth 20) (omega arith)) (lin ρ (e & a) (search facts depth 20) (omega arith)) ∙ sym (floor-turned n d h))
+    let is : q ≡ floorDiv (negℤ n) (negℤ d) =
+    squeezed (negℤ n) (negℤ d) q (turned d h)
+    (lin ρ (e & b) (search facts depth 20) (omega arith))
+    (lin ρ (e & a) (search facts depth 20) (omega arith)) in
+    rest n d q r e (is ∙ sym (floor-turned n d h))
 
 -- ---- in the dividend the quotient rises, or falls for a negative divisor
 pub floor-mono : (n m d : ℤ) → pos 0 <ℤ d → n ≤ℤ m → floorDiv n d ≤ℤ floorDiv m d

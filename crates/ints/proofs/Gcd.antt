@@ -54,7 +54,9 @@ natural : (turns a b : ℕ) → b ≤ turns → Bezout (pos a) (pos b) (pos (euc
 unfolding euclid
 natural zero a b h = let z : b ≡ 0 = omega arith in rw z (at-end (pos a))
 natural (suc turns) a zero h = at-end (pos a)
-natural (suc turns) a (suc b) h = turn (pos a) (pos (suc b)) (pos (a / suc b)) (pos (a % suc b)) (ap pos (div-add-mod a (suc b))) (natural turns (suc b) (a % suc b) (omega (arith, mod-lt a (zero-lt-suc b))))
+natural (suc turns) a (suc b) h =
+    turn (pos a) (pos (suc b)) (pos (a / suc b)) (pos (a % suc b)) (ap pos (div-add-mod a (suc b)))
+    (natural turns (suc b) (a % suc b) (omega (arith, mod-lt a (zero-lt-suc b))))
 
 -- ---- either sign
 turn-left : {g : ℤ} (a b : ℤ) → Bezout a b g → Bezout (negℤ a) b g
@@ -81,7 +83,9 @@ signed-left (negsuc a) b s = turn-left (pos (suc a)) b s
 
 pub bezout : (a b : ℤ) → Bezout a b (gcd a b)
 unfolding gcd
-bezout a b = signed-left a b (swap b (pos (natAbs a)) (signed-left b (pos (natAbs a)) (swap (pos (natAbs a)) (pos (natAbs b)) (natural (natAbs b) (natAbs a) (natAbs b) (omega arith)))))
+bezout a b =
+    let s : Bezout (pos (natAbs a)) (pos (natAbs b)) (gcd a b) = natural (natAbs b) (natAbs a) (natAbs b) (omega arith) in
+    signed-left a b (swap b (pos (natAbs a)) (signed-left b (pos (natAbs a)) (swap (pos (natAbs a)) (pos (natAbs b)) s)))
 
 gcd-nonneg : (a b : ℤ) → pos 0 ≤ℤ gcd a b
 unfolding gcd
@@ -102,4 +106,6 @@ gcd-nonzero a b nz e = nz (bezout a b .right .exact ∙ ap (λ t. t *ℤ bezout 
 -- with it divided out, a and b are prime to each other
 pub coprime : {a b g : ℤ} (s : Bezout a b g) → g ≢ pos 0 → s .left .factor *ℤ s .x +ℤ s .right .factor *ℤ s .y ≡ pos 1
 coprime {a} {b} {g} s nz = cancel g (s .left .factor *ℤ s .x +ℤ s .right .factor *ℤ s .y) (pos 1) nz
-    (lin (a ∷ b ∷ g ∷ s .x ∷ s .y ∷ s .left .factor ∷ s .right .factor ∷ []) (s .identity & ap (λ t. t *ℤ s .x) (s .left .exact) & ap (λ t. t *ℤ s .y) (s .right .exact)) (search facts depth 20) (omega arith))
+    (lin (a ∷ b ∷ g ∷ s .x ∷ s .y ∷ s .left .factor ∷ s .right .factor ∷ [])
+    (s .identity & ap (λ t. t *ℤ s .x) (s .left .exact) & ap (λ t. t *ℤ s .y) (s .right .exact))
+    (search facts depth 20) (omega arith))

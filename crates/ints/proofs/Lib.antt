@@ -18,7 +18,8 @@
 --
 -- A few habits. `≤ℤ` binds tighter than `+ℤ`: write (x +ℤ pos 1) ≤ℤ z. ℤ's operations compute at constructors, and `lin`
 -- does not read what is left of `pos n +ℤ pos 1`: state the step over variables of ℤ, and instantiate it. A fact that is
--- itself an `rw ..` wants a typed `let`. A long statement wants more steps: (search facts depth 20 fits 5000).
+-- itself an `rw ..` wants a typed `let`. A long statement wants more steps: (search facts depth 20 fits 5000). `omega` takes
+-- 64 naturals, so some 30 monomials that do not cancel: split a longer step.
 --
 -- The files, in the order in which they rest on each other:
 

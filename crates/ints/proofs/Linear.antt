@@ -50,9 +50,13 @@ monomial-is (i ∷ []) ρ = *ℤ-idʳ (nth ρ i)
 monomial-is (i ∷ j ∷ m) ρ = ap (λ t. nth ρ i *ℤ t) (monomial-is (j ∷ m) ρ)
 
 -- one term more
-one-more : (c : ℤ) (m : List ℕ) (p : Poly) (ρ : List ℤ) (a b : ℕ) → c *ℤ (posPart (monomial m ρ) ⊖ negPart (monomial m ρ)) ≡ a ⊖ b → total p ρ ≡ added p ρ ⊖ taken p ρ →
+one-more : (c : ℤ) (m : List ℕ) (p : Poly) (ρ : List ℤ) (a b : ℕ) →
+    c *ℤ (posPart (monomial m ρ) ⊖ negPart (monomial m ρ)) ≡ a ⊖ b → total p ρ ≡ added p ρ ⊖ taken p ρ →
     total (term c m p) ρ ≡ (a + added p ρ) ⊖ (b + taken p ρ)
-one-more c m p ρ a b e f = ap₂ (λ s t. c *ℤ s +ℤ t) (monomial-is m ρ ∙ parts (monomial m ρ)) f ∙ ap (λ s. s +ℤ (added p ρ ⊖ taken p ρ)) e ∙ ⊖-add a b (added p ρ) (taken p ρ)
+one-more c m p ρ a b e f =
+    ap₂ (λ s t. c *ℤ s +ℤ t) (monomial-is m ρ ∙ parts (monomial m ρ)) f
+    ∙ ap (λ s. s +ℤ (added p ρ ⊖ taken p ρ)) e
+    ∙ ⊖-add a b (added p ρ) (taken p ρ)
 
 total-is : (p : Poly) (ρ : List ℤ) → total p ρ ≡ added p ρ ⊖ taken p ρ
 total-is none ρ = simp differences (omega arith)
@@ -145,7 +149,11 @@ given-& ρ A B a b = record {
 }
 
 abbrev pub reads-→ : (ρ : List ℤ) (A B : Type 0) → Given ρ A → Reading ρ B → Reading ρ (A → B)
-reads-→ ρ A B a b = record { over-ℕ = a .before (b .over-ℕ); to = λ f. a .take (b .over-ℕ) (λ x. b .to (f x)); from = λ g x. b .from (a .give (b .over-ℕ) g x) }
+reads-→ ρ A B a b = record {
+  over-ℕ = a .before (b .over-ℕ);
+  to = λ f. a .take (b .over-ℕ) (λ x. b .to (f x));
+  from = λ g x. b .from (a .give (b .over-ℕ) g x);
+}
 
 -- ---- tests
 abbrev pub reads-lt-true : (ρ : List ℤ) (x y : ℤ) → Reading ρ (x <ℤ y) → Reading ρ (ltZ x y ≡ true)
@@ -160,7 +168,11 @@ reads-le-true ρ x y r = via ρ (le-true x y) r
 abbrev pub reads-le-false : (ρ : List ℤ) (x y : ℤ) → Reading ρ (y <ℤ x) → Reading ρ (leZ x y ≡ false)
 reads-le-false ρ x y r = via ρ (le-false x y) r
 
-pub ruleset facts = (reads-lt-true, reads-lt-false, reads-le-true, reads-le-false, terms, reads-≤, reads-<, reads-≡, reads-within, reads-nat-≤, reads-nat-≡, reads-⊥, reads-×, reads-→, given-&, given)
+pub ruleset tests = (reads-lt-true, reads-lt-false, reads-le-true, reads-le-false)
+
+pub ruleset connectives = (reads-⊥, reads-×, reads-→, given-&, given)
+
+pub ruleset facts = (tests, terms, reads-≤, reads-<, reads-≡, reads-within, reads-nat-≤, reads-nat-≡, connectives)
 
 -- ---- the tool
 infixl 4 _&_

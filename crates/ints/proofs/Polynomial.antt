@@ -123,7 +123,8 @@ insert-sound i (j ∷ m) ρ =
 
 times-sound : (m n : List ℕ) (ρ : List ℤ) → product (times m n) ρ ≡ product m ρ *ℤ product n ρ
 times-sound [] n ρ = sym (*ℤ-idˡ (product n ρ))
-times-sound (i ∷ m) n ρ = insert-sound i (times m n) ρ ∙ ap (λ t. nth ρ i *ℤ t) (times-sound m n ρ) ∙ sym (*ℤ-assoc (nth ρ i) (product m ρ) (product n ρ))
+times-sound (i ∷ m) n ρ =
+    insert-sound i (times m n) ρ ∙ ap (λ t. nth ρ i *ℤ t) (times-sound m n ρ) ∙ sym (*ℤ-assoc (nth ρ i) (product m ρ) (product n ρ))
 
 either-sound : (b : Bool) (c d : ℤ) (m n : List ℕ) (p r : Poly) (ρ : List ℤ) → (T b → m ≡ n) → total r ρ ≡ c *ℤ product m ρ +ℤ total p ρ →
     total (either b (term (c +ℤ d) n p) (term d n r)) ρ ≡ c *ℤ product m ρ +ℤ (d *ℤ product n ρ +ℤ total p ρ)
@@ -136,7 +137,10 @@ addTerm-sound c m (term d n p) ρ = either-sound (same m n) c d m n p (addTerm c
 
 add-sound : (p q : Poly) (ρ : List ℤ) → total (add p q) ρ ≡ total p ρ +ℤ total q ρ
 add-sound none q ρ = sym (+ℤ-idl (total q ρ))
-add-sound (term c m p) q ρ = addTerm-sound c m (add p q) ρ ∙ ap (λ t. c *ℤ product m ρ +ℤ t) (add-sound p q ρ) ∙ sym (+ℤ-assoc (c *ℤ product m ρ) (total p ρ) (total q ρ))
+add-sound (term c m p) q ρ =
+    addTerm-sound c m (add p q) ρ
+    ∙ ap (λ t. c *ℤ product m ρ +ℤ t) (add-sound p q ρ)
+    ∙ sym (+ℤ-assoc (c *ℤ product m ρ) (total p ρ) (total q ρ))
 
 scale-sound : (c : ℤ) (m : List ℕ) (p q : Poly) (ρ : List ℤ) → total (scaleOnto c m p q) ρ ≡ c *ℤ product m ρ *ℤ total p ρ +ℤ total q ρ
 scale-sound c m none q ρ = sym (ap (λ t. t +ℤ total q ρ) (*ℤ-comm (c *ℤ product m ρ) (pos 0) ∙ zero-*ℤ (c *ℤ product m ρ)) ∙ +ℤ-idl (total q ρ))
@@ -158,10 +162,14 @@ normal-sound (var i) ρ = sym (+ℤ-idr (pos 1 *ℤ (nth ρ i *ℤ pos 1)) ∙ *
 normal-sound (con c) ρ = sym (+ℤ-idr (c *ℤ pos 1) ∙ *ℤ-idʳ c)
 normal-sound (a ⊞ b) ρ = ap₂ _+ℤ_ (normal-sound a ρ) (normal-sound b ρ) ∙ sym (add-sound (normal a) (normal b) ρ)
 normal-sound (a ⊠ b) ρ = ap₂ _*ℤ_ (normal-sound a ρ) (normal-sound b ρ) ∙ sym (multiply-sound (normal a) (normal b) ρ)
-normal-sound (neg a) ρ = ap negℤ (normal-sound a ρ) ∙ sym (scale-sound (negsuc 0) [] (normal a) none ρ ∙ minus-one (pos 0) (total (normal a) ρ) ∙ +ℤ-idl (negℤ (total (normal a) ρ)))
+normal-sound (neg a) ρ =
+    ap negℤ (normal-sound a ρ)
+    ∙ sym (scale-sound (negsuc 0) [] (normal a) none ρ ∙ minus-one (pos 0) (total (normal a) ρ) ∙ +ℤ-idl (negℤ (total (normal a) ρ)))
 
 pub difference-sound : (a b : Expr) (ρ : List ℤ) → eval b ρ -ℤ eval a ρ ≡ total (difference a b) ρ
-difference-sound a b ρ = ap₂ _-ℤ_ (normal-sound b ρ) (normal-sound a ρ) ∙ sym (scale-sound (negsuc 0) [] (normal a) (normal b) ρ ∙ minus-one (total (normal b) ρ) (total (normal a) ρ))
+difference-sound a b ρ =
+    ap₂ _-ℤ_ (normal-sound b ρ) (normal-sound a ρ)
+    ∙ sym (scale-sound (negsuc 0) [] (normal a) (normal b) ρ ∙ minus-one (total (normal b) ρ) (total (normal a) ρ))
 
 -- ---- a polynomial whose coefficients are all 0 is 0
 abbrev pub isZero : ℤ → Bool

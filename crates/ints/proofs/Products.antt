@@ -20,7 +20,10 @@ mul-nonneg {x = negsuc a} {y} h k = absurd (h .le)
 
 -- two facts multiplied, for `lin`: it often wants the two facts themselves too
 pub prod : {a b c d : ℤ} → a ≤ℤ b → c ≤ℤ d → pos 0 ≤ℤ ((b -ℤ a) *ℤ (d -ℤ c))
-prod {a} {b} {c} {d} h k = mul-nonneg {x = b -ℤ a} {y = d -ℤ c} (lin (a ∷ b ∷ []) h (search facts depth 20) (omega arith)) (lin (c ∷ d ∷ []) k (search facts depth 20) (omega arith))
+prod {a} {b} {c} {d} h k =
+    mul-nonneg {x = b -ℤ a} {y = d -ℤ c}
+    (lin (a ∷ b ∷ []) h (search facts depth 20) (omega arith))
+    (lin (c ∷ d ∷ []) k (search facts depth 20) (omega arith))
 
 -- ---- sizes
 pub abs-neg : (n : ℕ) → natAbs (negℤ (pos n)) ≡ n
@@ -59,5 +62,8 @@ pub cancel : (d x y : ℤ) → d ≢ pos 0 → d *ℤ x ≡ d *ℤ y → x ≡ y
 cancel d x y h e = go (le-or-lt d (pos 0))
   where
     go : (d ≤ℤ pos 0) ⊎ (pos 0 <ℤ d) → x ≡ y
-    go (inl l) = cancel-pos (negℤ d) x y (lin (d ∷ []) (l & h) (search facts depth 20) (omega arith)) (lin (d ∷ x ∷ y ∷ []) e (search facts depth 20) (omega arith))
+    go (inl l) =
+        cancel-pos (negℤ d) x y
+        (lin (d ∷ []) (l & h) (search facts depth 20) (omega arith))
+        (lin (d ∷ x ∷ y ∷ []) e (search facts depth 20) (omega arith))
     go (inr l) = cancel-pos d x y l e

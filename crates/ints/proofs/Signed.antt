@@ -7,6 +7,7 @@
 -- quotients and of remainders. A premise `SFits w x` is looked for among the hypotheses, or listed: (search (signed, h) ..).
 use mathlib.Core.Path.{_≡_, refl, sym, _∙_, ap, ap₂}
 use mathlib.Core.Logic.{_↔_, _≢_}
+use mathlib.Core.Bool.{Bool}
 use mathlib.Core.List.{List}
 use Prim.Native.Nat.{ℕ, suc, _+_, _≤_, _<_, _^_}
 use native.Mathlib.Omega.{arith}
@@ -36,10 +37,12 @@ reads-fits ρ x l w = exactly ρ (fits-iff w x (added (value ρ x l) ρ) (taken 
 abbrev pub bits : (ρ : List ℤ) (w : Width) (x : ℤ) → SFits w x → Denotes ρ x → Denotes ρ (toZ w (ofZ w x))
 bits ρ w x f l = record { expr = l .expr; is = l .is ∙ sym (toZ-ofZ f) }
 
-abbrev pub quot-bits : (ρ : List ℤ) (w : Width) (n d : ℤ) → SFits w n → SFits w d → Denotes ρ (quotZ n d) → Denotes ρ (quotZ (toZ w (ofZ w n)) (toZ w (ofZ w d)))
+abbrev pub quot-bits : (ρ : List ℤ) (w : Width) (n d : ℤ) → SFits w n → SFits w d → Denotes ρ (quotZ n d) →
+    Denotes ρ (quotZ (toZ w (ofZ w n)) (toZ w (ofZ w d)))
 quot-bits ρ w n d f g l = record { expr = l .expr; is = l .is ∙ sym (ap₂ quotZ (toZ-ofZ f) (toZ-ofZ g)) }
 
-abbrev pub rem-bits : (ρ : List ℤ) (w : Width) (n d : ℤ) → SFits w n → SFits w d → Denotes ρ (remZ n d) → Denotes ρ (remZ (toZ w (ofZ w n)) (toZ w (ofZ w d)))
+abbrev pub rem-bits : (ρ : List ℤ) (w : Width) (n d : ℤ) → SFits w n → SFits w d → Denotes ρ (remZ n d) →
+    Denotes ρ (remZ (toZ w (ofZ w n)) (toZ w (ofZ w d)))
 rem-bits ρ w n d f g l = record { expr = l .expr; is = l .is ∙ sym (ap₂ remZ (toZ-ofZ f) (toZ-ofZ g)) }
 
 pub ruleset signed = (facts, reads-fits, bits, quot-bits, rem-bits)
@@ -65,3 +68,10 @@ bits-zero w (pos a) f = refl
 bits-zero w (negsuc a) f =
     let some : 0 < ofZ w (negsuc a) = bits-nonzero w (negsuc a) f (λ e. omega (arith, ap negPart e)) in
     ne-eqb (ofZ w (negsuc a)) 0 (λ e. omega arith) ∙ sym (ne-eqb (suc a) 0 (λ e. omega arith))
+
+-- ---- what a call on signed locals, and a branch on its result, tell of the numbers
+pub told : {w : Width} {x : ℤ} {r b : Bool} (test : ℤ → Bool) → SFits w x → r ≡ test (toZ w (ofZ w x)) → r ≡ b → test x ≡ b
+told test f e t = ap test (sym (toZ-ofZ f)) ∙ sym e ∙ t
+
+pub told₂ : {w : Width} {x y : ℤ} {r b : Bool} (test : ℤ → ℤ → Bool) → SFits w x → SFits w y → r ≡ test (toZ w (ofZ w x)) (toZ w (ofZ w y)) → r ≡ b → test x y ≡ b
+told₂ test f g e t = ap₂ test (sym (toZ-ofZ f)) (sym (toZ-ofZ g)) ∙ sym e ∙ t

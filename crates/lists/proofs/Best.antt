@@ -47,7 +47,8 @@ module _ {A : Type 0} (value : A → ℤ) {R : A → A → Type 0} where
         beats′ y (there (here e)) = inr (rw e (behind l r (p .beats b (here refl))))
         beats′ y (there (there h)) = p .beats y (there h)
 
-    choose : (t : Bool) {b x : A} {xs : List A} → ltZ (value b) (value x) ≡ t → R b x → Best value R (x ∷ xs) (firstBest value x xs) → Best value R (b ∷ xs) (firstBest value b xs) →
+    choose : (t : Bool) {b x : A} {xs : List A} → ltZ (value b) (value x) ≡ t → R b x →
+        Best value R (x ∷ xs) (firstBest value x xs) → Best value R (b ∷ xs) (firstBest value b xs) →
         Best value R (b ∷ x ∷ xs) (firstBest value (cond t x b) xs)
     choose true {b} {x} e r p q = pass (lt-true (value b) (value x) .0 e) p
     choose false {b} {x} e r p q = stay (lt-false (value b) (value x) .0 e) r q
@@ -60,7 +61,10 @@ module _ {A : Type 0} (value : A → ℤ) {R : A → A → Type 0} where
         only : (y : A) → y ∈ b ∷ [] → (y ≡ b) ⊎ Beats value R b y
         only y (here e) = inl e
         only y (there h) = absurd (List·Memᴰ·not-nil h)
-    first-best b (x ∷ xs) (more g (more h r)) = choose (ltZ (value b) (value x)) refl (g x (here refl)) (first-best x xs (more h r)) (first-best b xs (more (λ y k. g y (there k)) r))
+    first-best b (x ∷ xs) (more g (more h r)) =
+        choose (ltZ (value b) (value x)) refl (g x (here refl))
+        (first-best x xs (more h r))
+        (first-best b xs (more (λ y k. g y (there k)) r))
 
   -- there is only one
   module _ (asym : (x y : A) → R x y → R y x → ⊥) where

@@ -42,8 +42,10 @@ compared (x ∷ xs) (y ∷ ys) e = go (le-or-lt y x) (le-or-lt x y) (compared xs
     go (inl h) (inl k) c = tails (le-antisym x y k h) c
 
 -- the first place where they differ
-pub lower-at : (xs ys : List ℤ) (i : ℕ) → i < length xs → i < length ys → ((j : ℕ) → j < i → getD xs j (pos 0) ≡ getD ys j (pos 0)) → getD xs i (pos 0) <ℤ getD ys i (pos 0) → Lower xs ys
+pub lower-at : (xs ys : List ℤ) (i : ℕ) → i < length xs → i < length ys →
+    ((j : ℕ) → j < i → getD xs j (pos 0) ≡ getD ys j (pos 0)) → getD xs i (pos 0) <ℤ getD ys i (pos 0) → Lower xs ys
 lower-at [] ys i a b s l = absurd (omega arith)
 lower-at (x ∷ xs) [] i a b s l = absurd (omega arith)
 lower-at (x ∷ xs) (y ∷ ys) zero a b s l = now l
-lower-at (x ∷ xs) (y ∷ ys) (suc i) a b s l = later (s 0 (omega arith)) (lower-at xs ys i (omega arith) (omega arith) (λ j h. s (suc j) (omega arith)) l)
+lower-at (x ∷ xs) (y ∷ ys) (suc i) a b s l =
+    later (s 0 (omega arith)) (lower-at xs ys i (omega arith) (omega arith) (λ j h. s (suc j) (omega arith)) l)

@@ -33,7 +33,11 @@ in-range lo hi x = Iff·trans (in-table (λ k. lo +ℤ pos k) (width lo hi) x) (
     to (k, h, e) = lin (lo ∷ hi ∷ x ∷ pos k ∷ []) (width-iff lo hi k .0 h & e) (search facts depth 20) (omega arith)
 
     at : (k : ℕ) → x -ℤ lo ≡ pos k → x ≤ℤ hi → (k : ℕ) × (k < width lo hi) × (x ≡ lo +ℤ pos k)
-    at k e h = (k, width-iff lo hi k .1 (lin (lo ∷ hi ∷ x ∷ pos k ∷ []) (e & h) (search facts depth 20) (omega arith)), lin (lo ∷ x ∷ pos k ∷ []) e (search facts depth 20) (omega arith))
+    at k e h = (
+      k,
+      width-iff lo hi k .1 (lin (lo ∷ hi ∷ x ∷ pos k ∷ []) (e & h) (search facts depth 20) (omega arith)),
+      lin (lo ∷ x ∷ pos k ∷ []) e (search facts depth 20) (omega arith),
+    )
 
     from : (lo ≤ℤ x) × (x ≤ℤ hi) → (k : ℕ) × (k < width lo hi) × (x ≡ lo +ℤ pos k)
     from p = at (natAbs (x -ℤ lo)) (abs-nonneg (x -ℤ lo) (lin (lo ∷ hi ∷ x ∷ []) p (search facts depth 20) (omega arith))) (p .1)

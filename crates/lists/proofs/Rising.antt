@@ -21,7 +21,8 @@ module _ {A : Type 0} {R : A → A → Type 0} (asym : (x y : A) → R x y → R
   same-members none none m = refl
   same-members none (more {x = y} g s) m = absurd (List·Memᴰ·not-nil (m y .1 (here refl)))
   same-members (more {x} f r) none m = absurd (List·Memᴰ·not-nil (m x .0 (here refl)))
-  same-members (more {x} {xs} f r) (more {x = y} {xs = ys} g s) m = ap₂ _∷_ e (same-members r s λ z. (λ h. tail f e h (m z .0 (there h)), λ h. tail g (sym e) h (m z .1 (there h))))
+  same-members (more {x} {xs} f r) (more {x = y} {xs = ys} g s) m =
+      ap₂ _∷_ e (same-members r s λ z. (λ h. tail f e h (m z .0 (there h)), λ h. tail g (sym e) h (m z .1 (there h))))
     where
       e : x ≡ y
       e = head f g (m x .0 (here refl)) (m y .1 (here refl))

@@ -18,12 +18,17 @@ module _ {A : Type 0} (f : ℕ → A) where
   unfolding tableFrom
   from-into i zero j h = absurd (omega arith)
   from-into i (suc n) zero h = let e : i + 0 ≡ i = omega arith in here (ap f e)
-  from-into i (suc n) (suc j) h = let e : i + suc j ≡ suc i + j = omega arith in there {xs = tableFrom f (suc i) n} (rw e (from-into (suc i) n j (omega arith)))
+  from-into i (suc n) (suc j) h =
+      let e : i + suc j ≡ suc i + j = omega arith in
+      there {xs = tableFrom f (suc i) n} (rw e (from-into (suc i) n j (omega arith)))
 
   from-rising : {R : A → A → Type 0} (i n : ℕ) → ((j k : ℕ) → j < k → k < i + n → R (f j) (f k)) → Rising R (tableFrom f i n)
   unfolding tableFrom
   from-rising i zero m = none
-  from-rising {R} i (suc n) m = more {x = f i} (λ y h. let (k, a, b, e) = from-out (suc i) n h in rw e (m i k (omega arith) (omega arith))) (from-rising (suc i) n (λ j k h g. m j k h (omega arith)))
+  from-rising {R} i (suc n) m =
+      more {x = f i}
+      (λ y h. let (k, a, b, e) = from-out (suc i) n h in rw e (m i k (omega arith) (omega arith)))
+      (from-rising (suc i) n (λ j k h g. m j k h (omega arith)))
 
   from-length : (i n : ℕ) → length (tableFrom f i n) ≡ n
   unfolding tableFrom
@@ -35,10 +40,7 @@ module _ {A : Type 0} (f : ℕ → A) where
   in-table n z = (λ h. let (k, a, b, e) = from-out 0 n h in (k, omega arith, e), into)
     where
       into : (k : ℕ) × (k < n) × (z ≡ f k) → z ∈ tableFrom f 0 n
-      into (k, h, e) = rw (e, sym-add k) (from-into 0 n k h)
-        where
-          sym-add : (k : ℕ) → k ≡ 0 + k
-          sym-add k = omega arith
+      into (k, h, e) = let z : k ≡ 0 + k = omega arith in rw (e, z) (from-into 0 n k h)
 
   pub rising-table : {R : A → A → Type 0} (n : ℕ) → ((j k : ℕ) → j < k → k < n → R (f j) (f k)) → Rising R (table f n)
   unfolding table
