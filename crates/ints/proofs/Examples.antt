@@ -1,5 +1,5 @@
 -- Each tool at work. The must-fail edits turn statements of this file false: a tool that proved one of them would be none.
-use mathlib.Core.Path.{_≡_, refl, sym}
+use mathlib.Core.Path.{_≡_, refl, sym, _∙_, ap}
 use mathlib.Core.Logic.{_↔_, _≢_}
 use mathlib.Core.Bool.{true, false}
 use mathlib.Core.List.{[], _∷_}
@@ -11,12 +11,15 @@ use mir.Syntax.{w32, w64}
 use mir.Val.{SFits, toZ, ofZ}
 use Rattle.ints.specs.Within.{Within}
 use Rattle.ints.specs.Divides.{Congruent}
-use Rattle.ints.specs.Floor.{floorDiv, floorMod}
+use Rattle.ints.specs.Floor.{floorDiv, floorMod, ceilDiv}
+use Rattle.ints.specs.Division.{quotient, refused, limit, division}
 use Rattle.ints.specs.Floor.{floorDiv}
 use Rattle.ints.proofs.Ring.{ring, terms}
 use Rattle.ints.proofs.Linear.{lin, lin₀, _&_, facts}
 use Rattle.ints.proofs.Products.{prod, within-mul}
 use Rattle.ints.proofs.Signed.{signed, bits-equal}
+use Rattle.ints.proofs.Floor.{floor-iff, ceil-iff, floor-iff-neg, ceil-iff-neg, div-mod-unique}
+use Rattle.ints.proofs.Answers.{gives-floor, refuses}
 use Rattle.ints.proofs.Gcd.{gcd}
 use Rattle.ints.proofs.Congruence.{period, class}
 use Rattle.ints.proofs.Divides.{mod-least}
@@ -89,6 +92,39 @@ branch x y f g t = lin (x ∷ y ∷ []) (f & g & t) (search signed depth 20) (om
 -- two locals that a test found equal
 equal : (x y : ℤ) → SFits w32 x → SFits w32 y → ofZ w32 x ≡ ofZ w32 y → x -ℤ y ≡ pos 0
 equal x y f g t = lin (x ∷ y ∷ []) (bits-equal w32 x y f g .0 t) (search facts depth 20) (omega arith)
+
+-- ---- floor division: bounds on 3·k and on −3·k, rounded to bounds on k
+three : pos 0 <ℤ pos 3
+three = ltZ-yes tt
+
+minus-three : negsuc 2 <ℤ pos 0
+minus-three = ltZ-yes tt
+
+up-to-10 : (k : ℤ) → (pos 3 *ℤ k) ≤ℤ pos 10 ↔ k ≤ℤ pos 3
+unfolding floorDiv
+up-to-10 k = floor-iff (pos 10) (pos 3) k three
+
+from-10 : (k : ℤ) → pos 10 ≤ℤ (pos 3 *ℤ k) ↔ pos 4 ≤ℤ k
+unfolding ceilDiv floorDiv
+from-10 k = ceil-iff (pos 10) (pos 3) k three
+
+up-to-10-neg : (k : ℤ) → (negsuc 2 *ℤ k) ≤ℤ pos 10 ↔ negsuc 2 ≤ℤ k
+unfolding ceilDiv floorDiv
+up-to-10-neg k = ceil-iff-neg (pos 10) (negsuc 2) k minus-three
+
+from-10-neg : (k : ℤ) → pos 10 ≤ℤ (negsuc 2 *ℤ k) ↔ k ≤ℤ negsuc 3
+unfolding floorDiv
+from-10-neg k = floor-iff-neg (pos 10) (negsuc 2) k minus-three
+
+-- a caller of the working goes by its laws: nothing is divided by 0, and a divisor of 1 gives the dividend back
+by-zero : (n : ℤ) → division n (pos 0) ≡ refused 9 0
+by-zero n = refuses n (pos 0) (λ h. h .not-zero refl)
+
+by-one : (n : ℤ) → Within limit n → division n (pos 1) ≡ quotient n
+by-one n h = gives-floor n (pos 1) record { dividend = h; divisor = record { size = omega arith }; not-zero = lin₀ [] (search facts depth 20) (omega arith) } ∙ ap quotient (sym is)
+  where
+    is : n ≡ floorDiv n (pos 1)
+    is = div-mod-unique n (pos 1) n (pos 0) (ltZ-yes tt) (ring (n ∷ []) (search terms depth 20) (search terms depth 20) tt) (leZ-yes tt) (ltZ-yes tt) .0
 
 -- ---- gcd and congruence
 gcds : (gcd (pos 1000000000000000000) (pos 999999999999999989) ≡ pos 1) × (gcd (pos 6) (negsuc 9) ≡ pos 2) × (gcd (pos 0) (pos 0) ≡ pos 0)
