@@ -4,18 +4,15 @@ use mathlib.Core.Bool.{Bool, true, false, not, _&&_, cond, and-eq-true-iff, fals
 use native.Mathlib.Omega.{arith}
 use Prim.Native.Nat.{ℕ}
 use lib.Dec.{eqb}
-use lib.IntN.{ℤ, pos, negsuc, natAbs}
+use lib.IntN.{ℤ, natAbs}
 use borrow.Author.Tests.{eq-eqb, ne-eqb}
 use Rattle.ints.specs.Within.{isWithin}
 use Rattle.ints.specs.Floor.{floorDiv}
 use Rattle.ints.specs.Division.{quotient, refused, limit, InLimits, inLimits, division}
+use Rattle.ints.proofs.Order.{abs-zero}
 use Rattle.ints.proofs.Within.{within-true}
 
 -- ---- the test and the limits
-abs-zero : (x : ℤ) → natAbs x ≡ 0 → x ≡ pos 0
-abs-zero (pos n) e = ap pos e
-abs-zero (negsuc n) e = absurd (omega arith)
-
 pub in-limits-out : (n d : ℤ) → inLimits n d ≡ true → InLimits n d
 in-limits-out n d e =
     let (a, bc) = and-eq-true-iff (isWithin limit n) (isWithin limit d && not (eqb (natAbs d) 0)) .0 e in

@@ -4,11 +4,11 @@ use mathlib.Core.Logic.{_↔_, _⊎_, inl, inr, _≢_}
 use mathlib.Core.List.{[], _∷_}
 use native.Mathlib.Omega.{arith}
 use lib.IntN.{ℤ, pos, _+ℤ_, _*ℤ_}
-use lib.Signed.{_≤ℤ_, _<ℤ_}
+use lib.Signed.{_≤ℤ_, _<ℤ_, ≤ℤ-refl}
 use Rattle.ints.specs.Floor.{floorDiv, floorMod}
 use Rattle.ints.specs.Divides.{_∣ℤ_, Congruent}
-use Rattle.ints.proofs.Order.{le-or-lt}
-use Rattle.ints.proofs.Linear.{facts, lin, lin₀, _&_}
+use Rattle.ints.proofs.Order.{below-or-above}
+use Rattle.ints.proofs.Linear.{facts, lin, _&_}
 use Rattle.ints.proofs.Floor.{div-mod, div-mod-unique, div-mod-unique-neg}
 
 pub divides-add : {d m n : ℤ} → d ∣ℤ m → d ∣ℤ n → d ∣ℤ (m +ℤ n)
@@ -36,16 +36,14 @@ gauss d a b x y e h = record {
 
 -- ---- an exact quotient
 pub floor-exact : (n d : ℤ) → d ≢ pos 0 → d ∣ℤ n → d *ℤ floorDiv n d ≡ n
-floor-exact n d nz h = ap (λ t. d *ℤ t) (sym (is (le-or-lt d (pos 0)))) ∙ sym (h .exact)
+floor-exact n d nz h = ap (λ t. d *ℤ t) (sym (is (below-or-above d nz))) ∙ sym (h .exact)
   where
     whole : d *ℤ h .factor +ℤ pos 0 ≡ n
     whole = lin (n ∷ d ∷ h .factor ∷ []) (h .exact) (search facts depth 20) (omega arith)
 
-    is : (d ≤ℤ pos 0) ⊎ (pos 0 <ℤ d) → h .factor ≡ floorDiv n d
-    is (inl l) =
-        let neg : d <ℤ pos 0 = lin (d ∷ []) (l & nz) (search facts depth 20) (omega arith) in
-        div-mod-unique-neg n d (h .factor) (pos 0) neg whole neg (lin₀ [] (search facts depth 20) (omega arith)) .0
-    is (inr l) = div-mod-unique n d (h .factor) (pos 0) l whole (lin₀ [] (search facts depth 20) (omega arith)) l .0
+    is : (d <ℤ pos 0) ⊎ (pos 0 <ℤ d) → h .factor ≡ floorDiv n d
+    is (inl l) = div-mod-unique-neg n d (h .factor) (pos 0) l whole l (≤ℤ-refl (pos 0)) .0
+    is (inr l) = div-mod-unique n d (h .factor) (pos 0) l whole (≤ℤ-refl (pos 0)) l .0
 
 pub divides-iff : (n d : ℤ) → d ≢ pos 0 → (d ∣ℤ n) ↔ (floorMod n d ≡ pos 0)
 divides-iff n d nz = (to, from)

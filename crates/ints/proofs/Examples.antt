@@ -13,12 +13,11 @@ use Rattle.ints.specs.Within.{Within}
 use Rattle.ints.specs.Divides.{Congruent}
 use Rattle.ints.specs.Floor.{floorDiv, floorMod, ceilDiv}
 use Rattle.ints.specs.Division.{quotient, refused, limit, division}
-use Rattle.ints.specs.Floor.{floorDiv}
 use Rattle.ints.proofs.Ring.{ring, terms}
 use Rattle.ints.proofs.Linear.{lin, lin₀, _&_, facts}
 use Rattle.ints.proofs.Products.{prod, within-mul}
 use Rattle.ints.proofs.Signed.{signed, bits-equal}
-use Rattle.ints.proofs.Floor.{floor-iff, ceil-iff, floor-iff-neg, ceil-iff-neg, div-mod-unique}
+use Rattle.ints.proofs.Floor.{floor-iff, ceil-iff, floor-iff-neg, ceil-iff-neg, div-mod-unique, floor-within}
 use Rattle.ints.proofs.Answers.{gives-floor, refuses}
 use Rattle.ints.proofs.Gcd.{gcd}
 use Rattle.ints.proofs.Congruence.{period, class}
@@ -125,6 +124,10 @@ by-one n h = gives-floor n (pos 1) record { dividend = h; divisor = record { siz
   where
     is : n ≡ floorDiv n (pos 1)
     is = div-mod-unique n (pos 1) n (pos 0) (ltZ-yes tt) (ring (n ∷ []) (search terms depth 20) (search terms depth 20) tt) (leZ-yes tt) (ltZ-yes tt) .0
+
+-- a quotient fits where its dividend does
+quotient-fits : (n d : ℤ) → d ≢ pos 0 → Within limit n → SFits w64 (floorDiv n d -ℤ pos 1)
+quotient-fits n d h w = lin (floorDiv n d ∷ []) (floor-within n d h w) (search signed depth 20) (omega arith)
 
 -- ---- gcd and congruence
 gcds : (gcd (pos 1000000000000000000) (pos 999999999999999989) ≡ pos 1) × (gcd (pos 6) (negsuc 9) ≡ pos 2) × (gcd (pos 0) (pos 0) ≡ pos 0)

@@ -10,7 +10,7 @@ use lib.Signed.{_≤ℤ_, _<ℤ_, shrZ}
 use Rattle.ints.specs.Within.{Within}
 use Rattle.ints.specs.Floor.{floorDiv, floorMod, ceilDiv}
 use Rattle.ints.proofs.Difference.{le-parts, lt-parts}
-use Rattle.ints.proofs.Order.{le-trans, le-or-lt}
+use Rattle.ints.proofs.Order.{le-trans, le-or-lt, nat-not-below, below-or-above}
 use Rattle.ints.proofs.Linear.{facts, lin, lin₀, _&_}
 use Rattle.ints.proofs.Products.{prod, mul-le, cancel-lt}
 
@@ -37,7 +37,7 @@ floor-range n (negsuc d) h = absurd (h .lt)
 -- a negative divisor: turn both signs. Each twin below rests on this line
 pub floor-turned : (n d : ℤ) → d <ℤ pos 0 → floorDiv n d ≡ floorDiv (negℤ n) (negℤ d)
 unfolding floorDiv
-floor-turned n (pos d) h = absurd (omega (arith, lt-parts (pos d) (pos 0) .0 h))
+floor-turned n (pos d) h = nat-not-below d h
 floor-turned n (negsuc d) h = refl
 
 turned : (d : ℤ) → d <ℤ pos 0 → pos 0 <ℤ negℤ d
@@ -65,8 +65,8 @@ floor-iff n d k h = (to, from)
   where
     to : (d *ℤ k) ≤ℤ n → k ≤ℤ floorDiv n d
     to l =
-        let less : (d *ℤ k) <ℤ (d *ℤ (floorDiv n d +ℤ pos 1)) =
-        lin (n ∷ d ∷ k ∷ floorDiv n d ∷ []) (floor-range n d h & l) (search facts depth 20) (omega arith) in
+        let ρ : List ℤ = n ∷ d ∷ k ∷ floorDiv n d ∷ [] in
+        let less : (d *ℤ k) <ℤ (d *ℤ (floorDiv n d +ℤ pos 1)) = lin ρ (floor-range n d h & l) (search facts depth 20) (omega arith) in
         lin (k ∷ floorDiv n d ∷ []) (cancel-lt d k (floorDiv n d +ℤ pos 1) h less) (search facts depth 20) (omega arith)
 
     from : k ≤ℤ floorDiv n d → (d *ℤ k) ≤ℤ n
@@ -93,8 +93,8 @@ ceil-iff-neg n d k h =
 -- a quotient between the two ends of its range
 squeezed : (n d q : ℤ) → pos 0 <ℤ d → (d *ℤ q) ≤ℤ n → n <ℤ (d *ℤ q +ℤ d) → q ≡ floorDiv n d
 squeezed n d q h a b =
-    let less : (d *ℤ floorDiv n d) <ℤ (d *ℤ (q +ℤ pos 1)) =
-    lin (n ∷ d ∷ q ∷ floorDiv n d ∷ []) (floor-range n d h & b) (search facts depth 20) (omega arith) in
+    let ρ : List ℤ = n ∷ d ∷ q ∷ floorDiv n d ∷ [] in
+    let less : (d *ℤ floorDiv n d) <ℤ (d *ℤ (q +ℤ pos 1)) = lin ρ (floor-range n d h & b) (search facts depth 20) (omega arith) in
     lin (q ∷ floorDiv n d ∷ []) (floor-iff n d q h .0 a & cancel-lt d (floorDiv n d) (q +ℤ pos 1) h less) (search facts depth 20) (omega arith)
 
 -- the quotient decides the remainder
@@ -141,11 +141,10 @@ within-pos {A} n d h w = go (le-or-lt (pos 0) (floorDiv n d))
         lin (n ∷ d ∷ floorDiv n d ∷ []) (floor-range n d h & w & prod one down & l) (search facts depth 20) (omega arith)
 
 pub floor-within : {A : ℕ} (n d : ℤ) → d ≢ pos 0 → Within A n → Within A (floorDiv n d)
-floor-within {A} n d nz w = go (le-or-lt d (pos 0))
+floor-within {A} n d nz w = go (below-or-above d nz)
   where
-    go : (d ≤ℤ pos 0) ⊎ (pos 0 <ℤ d) → Within A (floorDiv n d)
-    go (inl l) =
-        let neg : d <ℤ pos 0 = lin (d ∷ []) (l & nz) (search facts depth 20) (omega arith) in
+    go : (d <ℤ pos 0) ⊎ (pos 0 <ℤ d) → Within A (floorDiv n d)
+    go (inl neg) =
         let w′ : Within A (negℤ n) = lin (n ∷ []) w (search facts depth 20) (omega arith) in
         rw (floor-turned n d neg) (within-pos (negℤ n) (negℤ d) (turned d neg) w′)
     go (inr l) = within-pos n d l w

@@ -1,15 +1,15 @@
 -- The order of ℤ and the tests that decide it. Most facts of order are one line of `lin` (Linear.antt); these have names
--- because other files hand them on.
-use mathlib.Core.Path.{_≡_, refl}
-use mathlib.Core.Logic.{_↔_, _⊎_, inl, inr}
+-- because other files hand them on. The kit has ≤ℤ-refl, <ℤ-irrefl and <ℤ-≤ℤ-trans (lib.Signed).
+use mathlib.Core.Path.{_≡_, refl, ap}
+use mathlib.Core.Logic.{_↔_, _⊎_, inl, inr, _≢_}
 use mathlib.Core.Bool.{Bool, true, false, not, true≢false, false≢true}
 use Prim.Native.Nat.{ℕ, zero, suc}
 use native.Mathlib.Omega.{arith}
 use lib.Dec.{T, leb→le, ltb→lt, lt→ltb, nleb→lt}
 use lib.Arith.{le→nltb, lt→nleb}
 use lib.IntN.{ℤ, pos, negsuc, negℤ, natAbs}
-use lib.Signed.{_≤ℤ_, _<ℤ_, ltZ, leZ, leZ-yes, ltZ-yes, ltZ-no}
-use Rattle.ints.proofs.Difference.{differences, le-parts, for2, for3}
+use lib.Signed.{_≤ℤ_, _<ℤ_, ltZ, leZ, leZ-yes, ltZ-yes, ltZ-no, clashℤ}
+use Rattle.ints.proofs.Difference.{differences, le-parts, lt-parts, for2, for3}
 
 pub le-trans : (x y z : ℤ) → x ≤ℤ y → y ≤ℤ z → x ≤ℤ z
 le-trans = for3 _ (λ a b c d e f. simp differences (omega arith))
@@ -26,14 +26,14 @@ lt-ne = for2 _ (λ a b c d. simp differences (omega arith))
 pub lt-trans : (x y z : ℤ) → x <ℤ y → y <ℤ z → x <ℤ z
 lt-trans = for3 _ (λ a b c d e f. simp differences (omega arith))
 
-pub lt-le-trans : (x y z : ℤ) → x <ℤ y → y ≤ℤ z → x <ℤ z
-lt-le-trans = for3 _ (λ a b c d e f. simp differences (omega arith))
-
 pub le-lt-trans : (x y z : ℤ) → x ≤ℤ y → y <ℤ z → x <ℤ z
 le-lt-trans = for3 _ (λ a b c d e f. simp differences (omega arith))
 
 pub nat-nonneg : (n : ℕ) → pos 0 ≤ℤ pos n
 nat-nonneg n = le-parts (pos 0) (pos n) .1 (omega arith)
+
+pub nat-not-below : {X : Type 0} (n : ℕ) → pos n <ℤ pos 0 → X
+nat-not-below n h = clashℤ h (nat-nonneg n)
 
 -- a number by its size
 pub abs-nonneg : (x : ℤ) → pos 0 ≤ℤ x → x ≡ pos (natAbs x)
@@ -45,6 +45,10 @@ abs-nonpos (pos zero) h = refl
 abs-nonpos (pos (suc n)) h = absurd (omega (arith, le-parts (pos (suc n)) (pos 0) .0 h))
 abs-nonpos (negsuc n) h = refl
 
+pub abs-zero : (x : ℤ) → natAbs x ≡ 0 → x ≡ pos 0
+abs-zero (pos n) e = ap pos e
+abs-zero (negsuc n) e = absurd (omega arith)
+
 -- one of the two
 pub le-or-lt : (x y : ℤ) → (x ≤ℤ y) ⊎ (y <ℤ x)
 le-or-lt x y = go (ltZ y x) (λ t. ltZ-yes t) (λ t. ltZ-no t)
@@ -52,6 +56,12 @@ le-or-lt x y = go (ltZ y x) (λ t. ltZ-yes t) (λ t. ltZ-no t)
     go : (b : Bool) → (T b → y <ℤ x) → (T (not b) → x ≤ℤ y) → (x ≤ℤ y) ⊎ (y <ℤ x)
     go true f g = inr (f tt)
     go false f g = inl (g tt)
+
+-- the sign of a number that is not 0
+pub below-or-above : (x : ℤ) → x ≢ pos 0 → (x <ℤ pos 0) ⊎ (pos 0 <ℤ x)
+below-or-above (pos zero) h = absurd (h refl)
+below-or-above (pos (suc n)) h = inr (lt-parts (pos 0) (pos (suc n)) .1 (omega arith))
+below-or-above (negsuc n) h = inl (ltZ-yes tt)
 
 -- ---- the tests `ltZ` and `leZ`, as definitions and branches have them
 pub true-iff : (b : Bool) → (b ≡ true) ↔ T b

@@ -5,7 +5,7 @@ use mathlib.Core.Bool.{Bool, true, false, _&&_}
 use mathlib.Core.List.{List, [], _∷_}
 use Prim.Native.Nat.{ℕ, zero, suc, compare, Ordering, Ordering·lt, Ordering·eq, Ordering·gt}
 use lib.Dec.{T, eqb, eqb→eq}
-use lib.IntN.{ℤ, pos, negsuc, negℤ, _+ℤ_, _-ℤ_, _*ℤ_, +ℤ-idl, +ℤ-idr, +ℤ-assoc, zero-*ℤ, *ℤ-comm}
+use lib.IntN.{ℤ, pos, negsuc, negℤ, _+ℤ_, _-ℤ_, _*ℤ_, +ℤ-idl, +ℤ-idr, +ℤ-assoc, zero-*ℤ, *ℤ-zero}
 use Rattle.ints.proofs.RingLaws.{*ℤ-assoc, *ℤ-distribʳ, *ℤ-idˡ, *ℤ-idʳ, +ℤ-swap, *ℤ-swap, merge, regroup, factor, minus-one, sub-zero}
 
 -- ---- expressions
@@ -143,7 +143,7 @@ add-sound (term c m p) q ρ =
     ∙ sym (+ℤ-assoc (c *ℤ product m ρ) (total p ρ) (total q ρ))
 
 scale-sound : (c : ℤ) (m : List ℕ) (p q : Poly) (ρ : List ℤ) → total (scaleOnto c m p q) ρ ≡ c *ℤ product m ρ *ℤ total p ρ +ℤ total q ρ
-scale-sound c m none q ρ = sym (ap (λ t. t +ℤ total q ρ) (*ℤ-comm (c *ℤ product m ρ) (pos 0) ∙ zero-*ℤ (c *ℤ product m ρ)) ∙ +ℤ-idl (total q ρ))
+scale-sound c m none q ρ = sym (ap (λ t. t +ℤ total q ρ) (*ℤ-zero (c *ℤ product m ρ)) ∙ +ℤ-idl (total q ρ))
 scale-sound c m (term d n p) q ρ =
     addTerm-sound (c *ℤ d) (times m n) (scaleOnto c m p q) ρ
     ∙ ap₂ (λ s t. c *ℤ d *ℤ s +ℤ t) (times-sound m n ρ) (scale-sound c m p q ρ)

@@ -10,7 +10,7 @@ use lib.IntN.{ℤ, pos, negsuc, negℤ, natAbs, _+ℤ_, _-ℤ_, _*ℤ_}
 use lib.Signed.{_≤ℤ_, _<ℤ_}
 use Rattle.ints.specs.Within.{Within}
 use Rattle.ints.proofs.Difference.{le-parts}
-use Rattle.ints.proofs.Order.{le-or-lt}
+use Rattle.ints.proofs.Order.{le-or-lt, below-or-above}
 use Rattle.ints.proofs.Linear.{facts, lin, _&_}
 
 pub mul-nonneg : {x y : ℤ} → pos 0 ≤ℤ x → pos 0 ≤ℤ y → pos 0 ≤ℤ (x *ℤ y)
@@ -59,11 +59,11 @@ cancel-pos d x y h e =
     lin (x ∷ y ∷ []) (below & above) (search facts depth 20) (omega arith)
 
 pub cancel : (d x y : ℤ) → d ≢ pos 0 → d *ℤ x ≡ d *ℤ y → x ≡ y
-cancel d x y h e = go (le-or-lt d (pos 0))
+cancel d x y h e = go (below-or-above d h)
   where
-    go : (d ≤ℤ pos 0) ⊎ (pos 0 <ℤ d) → x ≡ y
+    go : (d <ℤ pos 0) ⊎ (pos 0 <ℤ d) → x ≡ y
     go (inl l) =
         cancel-pos (negℤ d) x y
-        (lin (d ∷ []) (l & h) (search facts depth 20) (omega arith))
+        (lin (d ∷ []) l (search facts depth 20) (omega arith))
         (lin (d ∷ x ∷ y ∷ []) e (search facts depth 20) (omega arith))
     go (inr l) = cancel-pos d x y l e

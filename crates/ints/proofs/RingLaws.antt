@@ -1,5 +1,5 @@
 -- ℤ is a commutative ring: the laws that the kit does not have, and the rearrangements that the ring solver rests on.
--- The kit has +ℤ-assoc, +ℤ-idl, +ℤ-idr, *ℤ-comm and zero-*ℤ (lib.IntN).
+-- The kit has +ℤ-assoc, +ℤ-idl, +ℤ-idr, *ℤ-comm, *ℤ-zero and zero-*ℤ (lib.IntN).
 use mathlib.Core.Path.{_≡_}
 use native.Mathlib.Omega.{arith}
 use lib.IntN.{ℤ, pos, negsuc, _+ℤ_, _-ℤ_, _*ℤ_}

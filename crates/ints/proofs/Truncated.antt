@@ -8,7 +8,7 @@ use lib.IntN.{ℤ, pos, negsuc, negℤ, natAbs, _+ℤ_, _-ℤ_, _*ℤ_}
 use lib.Signed.{_≤ℤ_, _<ℤ_, quotZ, remZ}
 use Rattle.ints.specs.Within.{Within}
 use Rattle.ints.specs.Floor.{floorDiv}
-use Rattle.ints.proofs.Difference.{lt-parts}
+use Rattle.ints.proofs.Order.{nat-not-below}
 use Rattle.ints.proofs.Linear.{facts, lin, lin₀}
 use Rattle.ints.proofs.Products.{abs-neg}
 use Rattle.ints.proofs.Floor.{div-mod-unique, div-mod-unique-neg}
@@ -41,7 +41,7 @@ rem-range (pos a) (pos (suc d)) h = small (a % suc d) (suc d) (mod-lt a (zero-lt
 rem-range (negsuc a) (pos (suc d)) h = small (suc a % suc d) (suc d) (mod-lt (suc a) (zero-lt-suc d)) .1
 
 pub rem-range-neg : (n d : ℤ) → d <ℤ pos 0 → (d <ℤ remZ n d) × (remZ n d <ℤ negℤ d)
-rem-range-neg n (pos d) h = absurd (omega (arith, lt-parts (pos d) (pos 0) .0 h))
+rem-range-neg n (pos d) h = nat-not-below d h
 rem-range-neg (pos a) (negsuc d) h = small (a % suc d) (suc d) (mod-lt a (zero-lt-suc d)) .0
 rem-range-neg (negsuc a) (negsuc d) h = small (suc a % suc d) (suc d) (mod-lt (suc a) (zero-lt-suc d)) .1
 

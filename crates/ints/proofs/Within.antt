@@ -9,13 +9,14 @@ use lib.Signed.{_≤ℤ_, _<ℤ_, leZ}
 use borrow.Author.Tests.{leb-true, le-leb, lt-leb}
 use Rattle.ints.specs.Within.{Within, isWithin}
 use Rattle.ints.proofs.Difference.{le-parts, lt-parts}
+use Rattle.ints.proofs.Order.{nat-not-below}
 
 pub within-true : (n : ℕ) (x : ℤ) → (isWithin n x ≡ true) ↔ Within n x
 within-true n x = (λ e. record { size = leb-true (natAbs x) n e }, λ h. le-leb (natAbs x) n (h .size))
 
 -- as a program tests it: from below, and then from above
 pub within-below : (n : ℕ) (x : ℤ) → x <ℤ negℤ (pos n) → isWithin n x ≡ false
-within-below zero (pos a) h = absurd (omega (arith, lt-parts (pos a) (pos 0) .0 h))
+within-below zero (pos a) h = nat-not-below a h
 within-below (suc n) (pos a) h = absurd (h .lt)
 within-below zero (negsuc a) h = lt-leb (suc a) 0 (omega arith)
 within-below (suc n) (negsuc a) h = lt-leb (suc a) (suc n) (omega (arith, lt-parts (negsuc a) (negsuc n) .0 h))

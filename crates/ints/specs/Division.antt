@@ -29,7 +29,7 @@ pub record InLimits (n d : ℤ) : Type 0 where
   pub divisor : Within limit d
   pub not-zero : d ≢ pos 0
 
--- the same as a test
+-- the same as a test (proofs/Answers.antt: the two agree)
 abbrev pub inLimits : ℤ → ℤ → Bool
 inLimits n d = isWithin limit n && (isWithin limit d && not (eqb (natAbs d) 0))
 

@@ -3,8 +3,9 @@ use mathlib.Core.Path.{_≡_, refl, sym, ap}
 use mathlib.Core.Logic.{_⊎_, inl, inr}
 use mathlib.Core.Bool.{Bool, true, false, cond}
 use mathlib.Core.List.{List·Memᴰ·not-nil}
+use lib.Signed.{<ℤ-≤ℤ-trans}
 use Rattle.ints.proofs.{ℤ, _≤ℤ_, _<ℤ_, ltZ, List, [], _∷_, arith, facts, lin, le-or-lt}
-use Rattle.ints.proofs.Order.{lt-asym, lt-ne, lt-true, lt-false, le-antisym, lt-le-trans, le-lt-trans}
+use Rattle.ints.proofs.Order.{lt-asym, lt-ne, lt-true, lt-false, le-antisym, le-lt-trans}
 use Rattle.lists.specs.Members.{_∈_, here, there}
 use Rattle.lists.specs.Rising.{Rising, more}
 use Rattle.lists.specs.Best.{Beats, greater, earlier, Best, firstBest, bestOf}
@@ -32,7 +33,7 @@ module _ {A : Type 0} (value : A → ℤ) {R : A → A → Type 0} where
     pass {b} {x} {m} {xs} l p = record { member = there (p .member); beats = beats′ }
       where
         beats′ : (y : A) → y ∈ b ∷ x ∷ xs → (y ≡ m) ⊎ Beats value R m y
-        beats′ y (here e) = inr (greater (rw e (lt-le-trans (value b) (value x) (value m) l (at-most (p .beats x (here refl))))))
+        beats′ y (here e) = inr (greater (rw e (<ℤ-≤ℤ-trans l (at-most (p .beats x (here refl))))))
         beats′ y (there h) = p .beats y h
 
     stay : {b x m : A} {xs : List A} → value x ≤ℤ value b → R b x → Best value R (b ∷ xs) m → Best value R (b ∷ x ∷ xs) m
