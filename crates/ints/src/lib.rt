@@ -1,8 +1,10 @@
 //! Whole numbers: the division working, and the laws of ℤ that the proofs of every other crate go by.
+//!
+//! Read `specs/Lib.antt` for the definitions, then this file; `proofs/Lib.antt` says what other proofs import.
 
 ghost use mathlib.Core.Path.{_≡_};
 ghost use mathlib.Core.Logic.{_≢_};
-ghost use lib.IntN.{pos};
+ghost use lib.IntN.{pos, natAbs};
 ghost use Rattle.ints.specs.Within.{Within, isWithin};
 ghost use Rattle.ints.specs.Floor.{floorDiv};
 ghost use Rattle.ints.specs.Division.{answerOf, division, limit, inLimits};
@@ -48,6 +50,17 @@ fn in_range(x: i64) -> bool
         return false;
     }
     x <= HIGHEST
+}
+
+/// x without its sign.
+pub fn size(x: i64) -> u64
+    ensures { λ r. ⌜ r ≡ natAbs x ⌝ }
+{
+    if x < 0 {
+        ((-1 - x) as u64) + 1
+    } else {
+        x as u64
+    }
 }
 
 // `/` rounds towards zero: where the remainder and the divisor have opposite signs, the floor is one less.

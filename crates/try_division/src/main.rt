@@ -2,18 +2,21 @@
 //! defines the floor. The expected output is worked out by hand: a quotient of each sign, the reason at each limit, and
 //! 101 × 24 small and 20,000 pseudo-random pairs.
 
-ghost use mathlib.Core.Path.{_≡_};
 ghost use Prim.Native.Nat.{_*_, _≤_};
-ghost use Rattle.ints.specs.Floor.{floorDiv};
 ghost use Rattle.ints.specs.Division.{InLimits};
 use ints::Division;
 
 fn main() {
     vectors();
-    print::text(b"small pairs ");
-    print::count(agreeing(true, 2525));
-    print::text(b" agree\nrandom pairs ");
-    print::count(agreeing(false, 20000));
+    report(b"small", agreeing(true, 2525));
+    report(b"random", agreeing(false, 20000));
+}
+
+// The pairs that disagree stand on lines above this one.
+fn report(kind: &[u8], agree: u64) {
+    print::text(kind);
+    print::text(b" pairs ");
+    print::count(agree);
     print::text(b" agree\n");
 }
 
@@ -154,11 +157,14 @@ fn agrees(n: i64, d: i64) -> u64
     0
 }
 
-// The inequality that defines the floor: d·q is the last multiple of d that is not past n.
+// The inequality that defines the floor: d·q is the last multiple of d that is not past n. Nothing is taken for granted of
+// q: one that is too large for a floor is not multiplied.
 fn is_floor(n: i64, d: i64, q: i64) -> bool
     requires { ⌜ InLimits n d ⌝ }
-    requires { ⌜ q ≡ floorDiv n d ⌝ }
 {
+    if ints::size(n) / ints::size(d) + 1 < ints::size(q) {
+        return false;
+    }
     let p = d * q;
     if 0 < d {
         if p <= n { n < p + d } else { false }

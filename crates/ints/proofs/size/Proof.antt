@@ -1,17 +1,21 @@
--- `print::size` meets its contract: for x below 0, −1 − x is a natural number, and one less than the size of x.
+-- `ints::size` meets its contract: for x below 0, −1 − x is a natural number, and one less than the size of x.
 use mathlib.Core.Path.{_≡_, _∙_, ap}
 use borrow.Author.Needs.{needs}
 use Prim.Native.Nat.{_+_}
-use lib.Signed.{natAbs-le, yes-nonNeg}
+use lib.Signed.{_≤ℤ_, _<ℤ_, natAbs-le, yes-nonNeg}
 use mir.Syntax.{w64}
 use mir.Val.{SFits, toZ, ofZ}
 use mir.Facts.{toZ-ofZ, fits-natAbs}
-use Rattle.ints.proofs.{ℤ, pos, negsuc, natAbs, _-ℤ_, _≤ℤ_, _<ℤ_, [], _∷_, arith, facts, lin, _&_, signed}
+use mathlib.Core.List.{[], _∷_}
+use native.Mathlib.Omega.{arith}
+use lib.IntN.{ℤ, pos, negsuc, natAbs, _-ℤ_}
 use Rattle.ints.proofs.Order.{lt-true, lt-false, abs-nonneg, abs-nonpos}
-use Rattle.print.proofs.size.Statement.{statement}
-use Rattle.print.proofs.size.Tie as tie
-use Rattle.print.proofs.size.Reads as reads
-use Rattle.print.proofs.size.Lts as lts
+use Rattle.ints.proofs.Linear.{facts, lin, _&_}
+use Rattle.ints.proofs.Signed.{signed}
+use Rattle.ints.proofs.size.Statement.{statement}
+use Rattle.ints.proofs.size.Tie as tie
+use Rattle.ints.proofs.size.Reads as reads
+use Rattle.ints.proofs.size.Lts as lts
 
 -- of a number below 0
 module _ (x : ℤ) (h : x <ℤ pos 0) where
