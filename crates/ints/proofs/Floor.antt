@@ -148,3 +148,11 @@ floor-within {A} n d nz w = go (below-or-above d nz)
         let w′ : Within A (negℤ n) = lin (n ∷ []) w (search facts depth 20) (omega arith) in
         rw (floor-turned n d neg) (within-pos (negℤ n) (negℤ d) (turned d neg) w′)
     go (inr l) = within-pos n d l w
+
+-- ---- the remainder is no larger than the divisor
+pub mod-within : {A : ℕ} (n d : ℤ) → d ≢ pos 0 → Within A d → Within A (floorMod n d)
+mod-within {A} n d nz w = go (below-or-above d nz)
+  where
+    go : (d <ℤ pos 0) ⊎ (pos 0 <ℤ d) → Within A (floorMod n d)
+    go (inl h) = lin (d ∷ floorMod n d ∷ []) (mod-range-neg n d h & w) (search facts depth 20) (omega arith)
+    go (inr h) = lin (d ∷ floorMod n d ∷ []) (mod-range n d h & w) (search facts depth 20) (omega arith)

@@ -37,8 +37,9 @@ pub mod Ring
 pub mod Linear
 -- products of facts and of sizes, cancelling a factor
 pub mod Products
--- the test `isWithin`
+-- the tests `isWithin` and `isEqual`
 pub mod Within
+pub mod Equal
 -- what the checker asks of signed code: `lin` with the ruleset `signed`
 pub mod Signed
 -- division rounded down

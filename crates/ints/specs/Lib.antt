@@ -2,6 +2,8 @@
 
 -- "within ±n"
 pub mod Within
+-- "x = y" as a test
+pub mod Equal
 -- division rounded down
 pub mod Floor
 -- divisibility, congruence, the greatest common divisor

@@ -6,8 +6,8 @@ ghost use mathlib.Core.Path.{_≡_};
 ghost use mathlib.Core.Logic.{_≢_};
 ghost use lib.IntN.{pos, natAbs};
 ghost use Rattle.ints.specs.Within.{Within, isWithin};
-ghost use Rattle.ints.specs.Floor.{floorDiv};
-ghost use Rattle.ints.specs.Division.{answerOf, division, limit, inLimits};
+ghost use Rattle.ints.specs.Floor.{floorDiv, floorMod};
+ghost use Rattle.ints.specs.Division.{answerOf, division, limit, InLimits, inLimits};
 use reasons::Reason;
 
 /// What `divide` answers.
@@ -26,6 +26,25 @@ pub fn divide(n: i64, d: i64) -> Division
     } else {
         Division::Refused(Reason::WrongArgument)
     }
+}
+
+/// The quotient alone, for callers that have proved their arguments to be within the limits.
+pub fn quotient(n: i64, d: i64) -> i64
+    requires { ⌜ InLimits n d ⌝ }
+    ensures { λ q. ⌜ q ≡ floorDiv n d ⌝ }
+{
+    match divide(n, d) {
+        Division::Quotient(q) => q,
+        Division::Refused(_) => 0,
+    }
+}
+
+/// What division leaves of n: 0, or of the divisor's sign and smaller in size.
+pub fn remainder(n: i64, d: i64) -> i64
+    requires { ⌜ InLimits n d ⌝ }
+    ensures { λ r. ⌜ r ≡ floorMod n d ⌝ }
+{
+    n - d * quotient(n, d)
 }
 
 fn in_limits(n: i64, d: i64) -> bool

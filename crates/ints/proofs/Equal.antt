@@ -1,0 +1,20 @@
+-- The test `isEqual`, and what it says.
+use mathlib.Core.Path.{_≡_, refl, ap}
+use mathlib.Core.Logic.{_↔_}
+use mathlib.Core.Bool.{true, false≢true}
+use lib.IntN.{ℤ, pos, negsuc}
+use borrow.Author.Tests.{eqb-true, eq-eqb}
+use Rattle.ints.specs.Equal.{isEqual}
+
+pub equal-true : (x y : ℤ) → (isEqual x y ≡ true) ↔ (x ≡ y)
+equal-true x y = (to x y, λ e. rw e (same y))
+  where
+    to : (x y : ℤ) → isEqual x y ≡ true → x ≡ y
+    to (pos m) (pos n) e = ap pos (eqb-true m n e)
+    to (pos m) (negsuc n) e = absurd (false≢true e)
+    to (negsuc m) (pos n) e = absurd (false≢true e)
+    to (negsuc m) (negsuc n) e = ap negsuc (eqb-true m n e)
+
+    same : (y : ℤ) → isEqual y y ≡ true
+    same (pos n) = eq-eqb n n refl
+    same (negsuc n) = eq-eqb n n refl

@@ -1,0 +1,61 @@
+-- `ints::quotient` meets its contract: within the limits division is not refused.
+use mathlib.Core.Path.{_≡_, sym, _∙_, ap}
+use borrow.Author.Needs.{needs}
+use native.Mathlib.Omega.{arith}
+use Prim.Native.Nat.{ℕ}
+use lib.IntN.{ℤ}
+use mir.Syntax.{w64}
+use mir.Val.{SFits, toZ, ofZ}
+use mir.Facts.{toZ-ofZ}
+use mathlib.Core.List.{[], _∷_}
+use Rattle.ints.proofs.Linear.{lin}
+use Rattle.ints.proofs.Signed.{signed}
+use Rattle.ints.proofs.Floor.{floor-within}
+use Rattle.ints.specs.Floor.{floorDiv}
+use Rattle.ints.specs.Division.{answerOf, division, InLimits, quotient, refused}
+use Rattle.ints.proofs.Answers.{gives-floor, IsQuotient, quotient-is}
+use Rattle.ints.proofs.quotient.Statement.{statement}
+use Rattle.ints.proofs.quotient.Tie as tie
+
+-- with the bits of the locals taken away
+module _ (n d : ℤ) (f : SFits w64 n) (g : SFits w64 d) where
+  floor-of : (q : ℤ) → quotient q ≡ division (toZ w64 (ofZ w64 n)) (toZ w64 (ofZ w64 d)) → q ≡ floorDiv n d
+  floor-of q e =
+      let k : IsQuotient (toZ w64 (ofZ w64 n)) (toZ w64 (ofZ w64 d)) q = quotient-is _ _ q e in
+      rw (toZ-ofZ f, toZ-ofZ g) at (k .is)
+
+  not-refused : {X : Type 0} {a b : ℕ} → InLimits n d → refused a b ≡ division (toZ w64 (ofZ w64 n)) (toZ w64 (ofZ w64 d)) → X
+  not-refused {a} {b} h e =
+      let e′ : refused a b ≡ division n d = rw (toZ-ofZ f, toZ-ofZ g) at e in
+      let clash : refused a b ≡ quotient (floorDiv n d) = e′ ∙ gives-floor n d h in
+      absurd (let z : _≡_ {A = ℕ} 0 1 = cc in omega arith)
+
+  fitting : (q : ℤ) → InLimits n d → q ≡ floorDiv n d → toZ w64 (ofZ w64 q) ≡ floorDiv n d
+  fitting q h e =
+      let fits : SFits w64 (floorDiv n d) = lin (floorDiv n d ∷ []) (floor-within n d (h .not-zero) (h .dividend)) (search signed depth 20) (omega arith) in
+      rw e (toZ-ofZ fits)
+
+divide-requires : tie.Need-divide-requires
+divide-requires c κs = search needs
+
+enum-known-q : tie.Need-enum-known-q
+enum-known-q c = search needs
+
+enum-told : tie.Need-enum-told
+enum-told c = search needs
+
+returns : tie.Need-returns
+returns c =
+    let s = c .before .before .before .before in
+    let e = ap answerOf (sym (c .before .q .given .1)) ∙ c .before .before .before .divide .ensures in
+    let q = c .before .q .given .0 .0 in
+    fitting (s .args .n) (s .args .d) (s .fits .n) (s .fits .d) q (s .pre) (floor-of (s .args .n) (s .args .d) (s .fits .n) (s .fits .d) q e)
+
+returns-2 : tie.Need-returns-2
+returns-2 c =
+    let s = c .before .before .before in
+    let e = ap answerOf (sym (c .enum-told .given .1)) ∙ c .before .before .divide .ensures in
+    not-refused (s .args .n) (s .args .d) (s .fits .n) (s .fits .d) (s .pre) e
+
+pub quotient-spec : {M : Type 1} → statement M
+quotient-spec = tie.close (tie.spec divide-requires enum-known-q enum-told returns returns-2)
