@@ -1,34 +1,39 @@
 -- What callers of the division working go by: it gives the floor within the limits, and is refused outside them.
-use mathlib.Core.Path.{_≡_, refl, sym, _∙_, ap}
+use mathlib.Core.Path.{_≡_, refl, sym, _∙_, ap, ap₂}
+use mathlib.Core.List.{[], _∷_}
+use mir.Syntax.{w64}
+use mir.Val.{SFits, toZ, ofZ}
+use mir.Facts.{toZ-ofZ}
 use mathlib.Core.Bool.{Bool, true, false, not, _&&_, cond, and-eq-true-iff, false≢true}
 use native.Mathlib.Omega.{arith}
 use Prim.Native.Nat.{ℕ}
-use lib.Dec.{eqb}
-use lib.IntN.{ℤ, natAbs}
-use borrow.Author.Tests.{eq-eqb, ne-eqb}
-use Rattle.ints.specs.Within.{isWithin}
+use lib.IntN.{ℤ, pos}
+use Rattle.ints.specs.Equal.{isEqual}
+use Rattle.ints.specs.Within.{Within, isWithin}
 use Rattle.ints.specs.Floor.{floorDiv}
 use Rattle.ints.specs.Division.{quotient, refused, limit, InLimits, inLimits, division}
-use Rattle.ints.proofs.Order.{abs-zero}
+use Rattle.ints.proofs.Equal.{equal-true, equal-false}
 use Rattle.ints.proofs.Within.{within-true}
+use Rattle.ints.proofs.Linear.{lin}
+use Rattle.ints.proofs.Signed.{signed}
 
 -- ---- the test and the limits
 pub in-limits-out : (n d : ℤ) → inLimits n d ≡ true → InLimits n d
 in-limits-out n d e =
-    let (a, bc) = and-eq-true-iff (isWithin limit n) (isWithin limit d && not (eqb (natAbs d) 0)) .0 e in
-    let (b, c) = and-eq-true-iff (isWithin limit d) (not (eqb (natAbs d) 0)) .0 bc in
+    let (a, bc) = and-eq-true-iff (isWithin limit n) (isWithin limit d && not (isEqual d (pos 0))) .0 e in
+    let (b, c) = and-eq-true-iff (isWithin limit d) (not (isEqual d (pos 0))) .0 bc in
     record {
       dividend = within-true limit n .0 a;
       divisor = within-true limit d .0 b;
-      not-zero = λ z. false≢true (sym (ap not (eq-eqb (natAbs d) 0 (ap natAbs z))) ∙ c);
+      not-zero = λ z. false≢true (sym (ap not (equal-true d (pos 0) .1 z)) ∙ c);
     }
 
 pub in-limits-into : (n d : ℤ) → InLimits n d → inLimits n d ≡ true
 in-limits-into n d h =
-    and-eq-true-iff (isWithin limit n) (isWithin limit d && not (eqb (natAbs d) 0)) .1 (
+    and-eq-true-iff (isWithin limit n) (isWithin limit d && not (isEqual d (pos 0))) .1 (
       within-true limit n .1 (h .dividend),
-      and-eq-true-iff (isWithin limit d) (not (eqb (natAbs d) 0)) .1
-          (within-true limit d .1 (h .divisor), ap not (ne-eqb (natAbs d) 0 (λ z. h .not-zero (abs-zero d z)))),
+      and-eq-true-iff (isWithin limit d) (not (isEqual d (pos 0))) .1
+          (within-true limit d .1 (h .divisor), ap not (equal-false d (pos 0) (h .not-zero))),
     )
 
 -- ---- the answer
@@ -53,3 +58,14 @@ quotient-is n d q e = go (inLimits n d) refl e
     go : (b : Bool) → inLimits n d ≡ b → quotient q ≡ cond b (quotient (floorDiv n d)) (refused 9 0) → IsQuotient n d q
     go true t e = record { inside = in-limits-out n d t; is = cc }
     go false t e = absurd (let z : _≡_ {A = ℕ} 0 1 = cc in omega arith)
+
+-- ---- calls on locals of 64 bits, with the bits taken away: what a call is asked, and what it answers
+pub fits-limit : {n : ℤ} → Within limit n → SFits w64 n
+fits-limit {n} h = lin (n ∷ []) h (search signed depth 20) (omega arith)
+
+module _ {n d : ℤ} (h : InLimits n d) where
+  pub asked : InLimits (toZ w64 (ofZ w64 n)) (toZ w64 (ofZ w64 d))
+  asked = rw (toZ-ofZ (fits-limit (h .dividend)), toZ-ofZ (fits-limit (h .divisor))) h
+
+  pub answered : {r : ℤ} (op : ℤ → ℤ → ℤ) → r ≡ op (toZ w64 (ofZ w64 n)) (toZ w64 (ofZ w64 d)) → r ≡ op n d
+  answered op e = e ∙ ap₂ op (toZ-ofZ (fits-limit (h .dividend))) (toZ-ofZ (fits-limit (h .divisor)))

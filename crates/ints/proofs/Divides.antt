@@ -7,7 +7,8 @@ use lib.IntN.{ℤ, pos, _+ℤ_, _*ℤ_}
 use lib.Signed.{_≤ℤ_, _<ℤ_, ≤ℤ-refl}
 use Rattle.ints.specs.Floor.{floorDiv, floorMod}
 use Rattle.ints.specs.Divides.{_∣ℤ_, Congruent}
-use Rattle.ints.proofs.Order.{below-or-above}
+use Rattle.ints.proofs.Order.{le-antisym, le-or-lt, below-or-above}
+use Rattle.ints.proofs.Products.{prod, cancel-lt}
 use Rattle.ints.proofs.Linear.{facts, lin, _&_}
 use Rattle.ints.proofs.Floor.{div-mod, div-mod-unique, div-mod-unique-neg}
 
@@ -33,6 +34,18 @@ gauss d a b x y e h = record {
   factor = x *ℤ b +ℤ y *ℤ h .factor;
   exact = lin (d ∷ a ∷ b ∷ x ∷ y ∷ h .factor ∷ []) (ap (λ t. t *ℤ b) e & ap (λ t. y *ℤ t) (h .exact)) (search facts depth 20) (omega arith);
 }
+
+-- a divisor of a number above 0 lies from 1 to it
+pub divisor-range : {g b : ℤ} → pos 0 ≤ℤ g → g ∣ℤ b → pos 0 <ℤ b → (pos 0 <ℤ g) × (g ≤ℤ b)
+divisor-range {g} {b} low h above = go (le-or-lt g (pos 0))
+  where
+    go : (g ≤ℤ pos 0) ⊎ (pos 0 <ℤ g) → (pos 0 <ℤ g) × (g ≤ℤ b)
+    go (inl l) =
+        absurd (lin (g ∷ b ∷ h .factor ∷ []) (h .exact & above & ap (λ t. t *ℤ h .factor) (le-antisym g (pos 0) l low)) (search facts depth 20) (omega arith))
+    go (inr l) =
+        let some : pos 0 <ℤ h .factor = cancel-lt g (pos 0) (h .factor) l (lin (g ∷ b ∷ h .factor ∷ []) (h .exact & above) (search facts depth 20) (omega arith)) in
+        let one : pos 1 ≤ℤ h .factor = lin (h .factor ∷ []) some (search facts depth 20) (omega arith) in
+        (l, lin (g ∷ b ∷ h .factor ∷ []) (h .exact & prod low one) (search facts depth 20) (omega arith))
 
 -- ---- an exact quotient
 pub floor-exact : (n d : ℤ) → d ≢ pos 0 → d ∣ℤ n → d *ℤ floorDiv n d ≡ n

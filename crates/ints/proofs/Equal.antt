@@ -1,7 +1,7 @@
 -- The test `isEqual`, and what it says.
 use mathlib.Core.Path.{_≡_, refl, ap}
-use mathlib.Core.Logic.{_↔_}
-use mathlib.Core.Bool.{true, false≢true}
+use mathlib.Core.Logic.{_↔_, _≢_}
+use mathlib.Core.Bool.{Bool, true, false, false≢true}
 use lib.IntN.{ℤ, pos, negsuc}
 use borrow.Author.Tests.{eqb-true, eq-eqb}
 use Rattle.ints.specs.Equal.{isEqual}
@@ -18,3 +18,10 @@ equal-true x y = (to x y, λ e. rw e (same y))
     same : (y : ℤ) → isEqual y y ≡ true
     same (pos n) = eq-eqb n n refl
     same (negsuc n) = eq-eqb n n refl
+
+pub equal-false : (x y : ℤ) → x ≢ y → isEqual x y ≡ false
+equal-false x y h = go (isEqual x y) refl
+  where
+    go : (t : Bool) → isEqual x y ≡ t → t ≡ false
+    go true e = absurd (h (equal-true x y .0 e))
+    go false e = refl

@@ -149,6 +149,12 @@ floor-within {A} n d nz w = go (below-or-above d nz)
         rw (floor-turned n d neg) (within-pos (negℤ n) (negℤ d) (turned d neg) w′)
     go (inr l) = within-pos n d l w
 
+pub ceil-within : {A : ℕ} (n d : ℤ) → d ≢ pos 0 → Within A n → Within A (ceilDiv n d)
+unfolding ceilDiv
+ceil-within {A} n d nz w =
+    let w′ : Within A (negℤ n) = lin (n ∷ []) w (search facts depth 20) (omega arith) in
+    lin (floorDiv (negℤ n) d ∷ []) (floor-within (negℤ n) d nz w′) (search facts depth 20) (omega arith)
+
 -- ---- the remainder is no larger than the divisor
 pub mod-within : {A : ℕ} (n d : ℤ) → d ≢ pos 0 → Within A d → Within A (floorMod n d)
 mod-within {A} n d nz w = go (below-or-above d nz)

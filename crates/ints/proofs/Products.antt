@@ -1,7 +1,7 @@
 -- What is not linear: products of facts, the size of a product, cancelling a factor.
 -- `lin` takes a product as one unknown; the fact that a proof needs of it comes from here.
 use mathlib.Core.Path.{_≡_, refl}
-use mathlib.Core.Logic.{_⊎_, inl, inr, _≢_}
+use mathlib.Core.Logic.{_↔_, _⊎_, inl, inr, _≢_}
 use mathlib.Core.List.{[], _∷_}
 use Prim.Native.Nat.{ℕ, zero, suc, _*_}
 use native.Mathlib.Nat.{mul-le-mul}
@@ -67,3 +67,17 @@ cancel d x y h e = go (below-or-above d h)
         (lin (d ∷ []) l (search facts depth 20) (omega arith))
         (lin (d ∷ x ∷ y ∷ []) e (search facts depth 20) (omega arith))
     go (inr l) = cancel-pos d x y l e
+
+-- a factor above 0 keeps the order both ways, and one below 0 turns it round
+pub mul-le-iff : (d x y : ℤ) → pos 0 <ℤ d → (x ≤ℤ y) ↔ ((d *ℤ x) ≤ℤ (d *ℤ y))
+mul-le-iff d x y h = (mul-le d x y h, from)
+  where
+    from : (d *ℤ x) ≤ℤ (d *ℤ y) → x ≤ℤ y
+    from k =
+        let below : x <ℤ (y +ℤ pos 1) = cancel-lt d x (y +ℤ pos 1) h (lin (d ∷ x ∷ y ∷ []) (k & h) (search facts depth 20) (omega arith)) in
+        lin (x ∷ y ∷ []) below (search facts depth 20) (omega arith)
+
+pub mul-le-iff-neg : (d x y : ℤ) → d <ℤ pos 0 → (x ≤ℤ y) ↔ ((d *ℤ y) ≤ℤ (d *ℤ x))
+mul-le-iff-neg d x y h =
+    let (to, from) = mul-le-iff (negℤ d) x y (lin (d ∷ []) h (search facts depth 20) (omega arith)) in
+    (λ k. lin (d ∷ x ∷ y ∷ []) (to k) (search facts depth 20) (omega arith), λ k. from (lin (d ∷ x ∷ y ∷ []) k (search facts depth 20) (omega arith)))

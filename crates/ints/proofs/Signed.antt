@@ -13,11 +13,12 @@ use Prim.Native.Nat.{ℕ, suc, _+_, _≤_, _<_, _^_}
 use native.Mathlib.Omega.{arith}
 use lib.Dec.{eqb}
 use borrow.Author.Tests.{ne-eqb}
-use lib.IntN.{ℤ, pos, negsuc, natAbs}
+use lib.IntN.{ℤ, pos, negsuc}
 use lib.Signed.{quotZ, remZ, mag}
 use mir.Syntax.{Width, w8, w16, w32, w64, w128}
 use mir.Val.{SFits, hbits, toZ, ofZ}
 use mir.Facts.{toZ-ofZ, sfits-lit}
+use Rattle.ints.specs.Equal.{isEqual}
 use Rattle.ints.proofs.Difference.{negPart, _⊖_, differences}
 use Rattle.ints.proofs.Ring.{Denotes}
 use Rattle.ints.proofs.Linear.{Reading, exactly, added, taken, value, value-is, facts}
@@ -63,11 +64,11 @@ pub bits-nonzero : (w : Width) (x : ℤ) → SFits w x → x ≢ pos 0 → 0 < o
 bits-nonzero w x f h = let some : ofZ w x ≢ 0 = λ e. h (bits-equal w x (pos 0) f (fits-zero w) .0 e) in omega arith
 
 -- the result of `x == 0`, as a definition has it
-pub bits-zero : (w : Width) (x : ℤ) → SFits w x → eqb (ofZ w x) 0 ≡ eqb (natAbs x) 0
+pub bits-zero : (w : Width) (x : ℤ) → SFits w x → eqb (ofZ w x) 0 ≡ isEqual x (pos 0)
 bits-zero w (pos a) f = refl
 bits-zero w (negsuc a) f =
     let some : 0 < ofZ w (negsuc a) = bits-nonzero w (negsuc a) f (λ e. omega (arith, ap negPart e)) in
-    ne-eqb (ofZ w (negsuc a)) 0 (λ e. omega arith) ∙ sym (ne-eqb (suc a) 0 (λ e. omega arith))
+    ne-eqb (ofZ w (negsuc a)) 0 (λ e. omega arith)
 
 -- ---- what a call on signed locals, and a branch on its result, tell of the numbers
 pub told : {w : Width} {x : ℤ} {r b : Bool} (test : ℤ → Bool) → SFits w x → r ≡ test (toZ w (ofZ w x)) → r ≡ b → test x ≡ b

@@ -8,7 +8,7 @@ use lib.IntN.{ℤ, pos, negsuc, negℤ, natAbs, _+ℤ_, _-ℤ_, _*ℤ_}
 use lib.Signed.{_≤ℤ_, _<ℤ_, quotZ, remZ}
 use Rattle.ints.specs.Within.{Within}
 use Rattle.ints.specs.Floor.{floorDiv}
-use Rattle.ints.proofs.Order.{nat-not-below}
+use Rattle.ints.proofs.Order.{nat-nonneg, nat-not-below}
 use Rattle.ints.proofs.Linear.{facts, lin, lin₀}
 use Rattle.ints.proofs.Products.{abs-neg}
 use Rattle.ints.proofs.Floor.{div-mod-unique, div-mod-unique-neg}
@@ -82,3 +82,13 @@ within-quot {n = negsuc a} (negsuc b) h = record { size = le-trans (div-le-self 
 pub within-rem : {A : ℕ} {n : ℤ} (d : ℤ) → Within A n → Within A (remZ n d)
 within-rem {n = pos a} d h = record { size = le-trans (mod-le a (natAbs d)) (h .size) }
 within-rem {n = negsuc a} d h = record { size = rw (abs-neg (suc a % natAbs d)) (le-trans (mod-le (suc a) (natAbs d)) (h .size)) }
+
+-- ---- of numbers that are not negative
+pub quot-nonneg : (n d : ℤ) → pos 0 ≤ℤ n → pos 0 ≤ℤ d → pos 0 ≤ℤ quotZ n d
+quot-nonneg (pos n) (pos d) h k = nat-nonneg (n / d)
+quot-nonneg (pos n) (negsuc d) h k = absurd (k .le)
+quot-nonneg (negsuc n) d h k = absurd (h .le)
+
+pub rem-nonneg : (n d : ℤ) → pos 0 ≤ℤ n → pos 0 ≤ℤ remZ n d
+rem-nonneg (pos n) d h = nat-nonneg (n % natAbs d)
+rem-nonneg (negsuc n) d h = absurd (h .le)

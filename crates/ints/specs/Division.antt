@@ -2,10 +2,10 @@
 use mathlib.Core.Bool.{Bool, not, _&&_, cond}
 use mathlib.Core.Logic.{_≢_}
 use Prim.Native.Nat.{ℕ}
-use lib.Dec.{eqb}
-use lib.IntN.{ℤ, pos, natAbs}
+use lib.IntN.{ℤ, pos}
 use Rattle.reasons.specs.Numbers.{numberOf, rowOf}
 use Rattle.ints.specs.Within.{Within, isWithin}
+use Rattle.ints.specs.Equal.{isEqual}
 use Rattle.ints.specs.Floor.{floorDiv}
 use Rattle.ints.specs.declared.Division.{Division}
 use Rattle.ints.specs.declared.Division.the-variants.{Quotient, Refused}
@@ -31,7 +31,7 @@ pub record InLimits (n d : ℤ) : Type 0 where
 
 -- the same as a test (proofs/Answers.antt: the two agree)
 abbrev pub inLimits : ℤ → ℤ → Bool
-inLimits n d = isWithin limit n && (isWithin limit d && not (eqb (natAbs d) 0))
+inLimits n d = isWithin limit n && (isWithin limit d && not (isEqual d (pos 0)))
 
 -- the quotient rounded down, or reason 9
 abbrev pub division : ℤ → ℤ → Answer

@@ -6,7 +6,7 @@ ghost use mathlib.Core.Path.{_≡_};
 ghost use mathlib.Core.Logic.{_≢_};
 ghost use lib.IntN.{pos, natAbs};
 ghost use Rattle.ints.specs.Within.{Within, isWithin};
-ghost use Rattle.ints.specs.Floor.{floorDiv, floorMod};
+ghost use Rattle.ints.specs.Floor.{floorDiv, floorMod, ceilDiv};
 ghost use Rattle.ints.specs.Division.{answerOf, division, limit, InLimits, inLimits};
 use reasons::Reason;
 
@@ -39,6 +39,14 @@ pub fn quotient(n: i64, d: i64) -> i64
     }
 }
 
+/// The quotient rounded towards the higher whole number.
+pub fn ceiling(n: i64, d: i64) -> i64
+    requires { ⌜ InLimits n d ⌝ }
+    ensures { λ q. ⌜ q ≡ ceilDiv n d ⌝ }
+{
+    -quotient(-n, d)
+}
+
 /// What division leaves of n: 0, or of the divisor's sign and smaller in size.
 pub fn remainder(n: i64, d: i64) -> i64
     requires { ⌜ InLimits n d ⌝ }
@@ -50,25 +58,21 @@ pub fn remainder(n: i64, d: i64) -> i64
 fn in_limits(n: i64, d: i64) -> bool
     ensures { λ r. ⌜ r ≡ inLimits n d ⌝ }
 {
-    if in_range(n) {
-        if in_range(d) {
+    if is_within(LIMIT, n) {
+        if is_within(LIMIT, d) {
             return d != 0;
         }
     }
     false
 }
 
-const LOWEST: i64 = -4000000000000000000;
+const LIMIT: u64 = 4000000000000000000;
 
-const HIGHEST: i64 = 4000000000000000000;
-
-fn in_range(x: i64) -> bool
-    ensures { λ r. ⌜ r ≡ isWithin limit x ⌝ }
+/// Does x lie within ±most?
+pub fn is_within(most: u64, x: i64) -> bool
+    ensures { λ r. ⌜ r ≡ isWithin most x ⌝ }
 {
-    if x < LOWEST {
-        return false;
-    }
-    x <= HIGHEST
+    size(x) <= most
 }
 
 /// x without its sign.

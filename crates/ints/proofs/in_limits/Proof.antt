@@ -9,31 +9,31 @@ use Rattle.ints.proofs.Signed.{bits-zero, told}
 use Rattle.ints.proofs.in_limits.Statement.{statement}
 use Rattle.ints.proofs.in_limits.Tie as tie
 
-in-range-requires : tie.Need-in-range-requires
-in-range-requires c κs = search needs
+is-within-requires : tie.Need-is-within-requires
+is-within-requires c κs = search needs
 
-in-range-requires-2 : tie.Need-in-range-requires-2
-in-range-requires-2 c κs = search needs
+is-within-requires-2 : tie.Need-is-within-requires-2
+is-within-requires-2 c κs = search needs
 
 returns : tie.Need-returns
 returns c =
     let s = c .before .before .before .before in
-    let n-in : isWithin limit (s .args .n) ≡ true = told (isWithin limit) (s .fits .n) (c .before .before .before .in-range .ensures) (c .before .before .if1 .taken) in
-    let d-in : isWithin limit (s .args .d) ≡ true = told (isWithin limit) (s .fits .d) (c .before .in-range2 .ensures) (c .if2 .taken) in
+    let n-in : isWithin limit (s .args .n) ≡ true = told (isWithin limit) (s .fits .n) (c .before .before .before .is-within .ensures) (c .before .before .if1 .taken) in
+    let d-in : isWithin limit (s .args .d) ≡ true = told (isWithin limit) (s .fits .d) (c .before .is-within2 .ensures) (c .if2 .taken) in
     rw (n-in, d-in) (ap not (bits-zero w64 (s .args .d) (s .fits .d)))
 
 returns-2 : tie.Need-returns-2
 returns-2 c =
     let s = c .before .before .before .before in
-    let n-in : isWithin limit (s .args .n) ≡ true = told (isWithin limit) (s .fits .n) (c .before .before .before .in-range .ensures) (c .before .before .if1 .taken) in
-    let d-out : isWithin limit (s .args .d) ≡ false = told (isWithin limit) (s .fits .d) (c .before .in-range2 .ensures) (c .if2 .left) in
+    let n-in : isWithin limit (s .args .n) ≡ true = told (isWithin limit) (s .fits .n) (c .before .before .before .is-within .ensures) (c .before .before .if1 .taken) in
+    let d-out : isWithin limit (s .args .d) ≡ false = told (isWithin limit) (s .fits .d) (c .before .is-within2 .ensures) (c .if2 .left) in
     rw (n-in, d-out)
 
 returns-3 : tie.Need-returns-3
 returns-3 c =
     let s = c .before .before in
-    let n-out : isWithin limit (s .args .n) ≡ false = told (isWithin limit) (s .fits .n) (c .before .in-range .ensures) (c .if1 .left) in
+    let n-out : isWithin limit (s .args .n) ≡ false = told (isWithin limit) (s .fits .n) (c .before .is-within .ensures) (c .if1 .left) in
     rw n-out
 
 pub in-limits-spec : {M : Type 1} → statement M
-in-limits-spec = tie.close (tie.spec in-range-requires in-range-requires-2 returns returns-2 returns-3)
+in-limits-spec = tie.close (tie.spec is-within-requires is-within-requires-2 returns returns-2 returns-3)
