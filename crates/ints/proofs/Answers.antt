@@ -2,7 +2,7 @@
 use mathlib.Core.Path.{_≡_, refl, sym, _∙_, ap, ap₂}
 use mathlib.Core.List.{[], _∷_}
 use mir.Syntax.{w64}
-use mir.Val.{SFits, toZ, ofZ}
+use mir.Val.{SFits}
 use mir.Facts.{toZ-ofZ}
 use mathlib.Core.Bool.{Bool, true, false, not, _&&_, cond, and-eq-true-iff, false≢true}
 use native.Mathlib.Omega.{arith}
@@ -15,7 +15,7 @@ use Rattle.ints.specs.Division.{quotient, refused, limit, InLimits, inLi
 use Rattle.ints.proofs.Equal.{equal-true, equal-false}
 use Rattle.ints.proofs.Within.{within-true}
 use Rattle.ints.proofs.Linear.{lin}
-use Rattle.ints.proofs.Signed.{signed}
+use Rattle.ints.proofs.Signed.{held, signed}
 
 -- ---- the test and the limits
 pub in-limits-out : (n d : ℤ) → inLimits n d ≡ true → InLimits n d
@@ -64,8 +64,8 @@ pub fits-limit : {n : ℤ} → Within limit n → SFits w64 n
 fits-limit {n} h = lin (n ∷ []) h (search signed depth 20) (omega arith)
 
 module _ {n d : ℤ} (h : InLimits n d) where
-  pub asked : InLimits (toZ w64 (ofZ w64 n)) (toZ w64 (ofZ w64 d))
+  pub asked : InLimits (held n) (held d)
   asked = rw (toZ-ofZ (fits-limit (h .dividend)), toZ-ofZ (fits-limit (h .divisor))) h
 
-  pub answered : {r : ℤ} (op : ℤ → ℤ → ℤ) → r ≡ op (toZ w64 (ofZ w64 n)) (toZ w64 (ofZ w64 d)) → r ≡ op n d
+  pub answered : {r : ℤ} (op : ℤ → ℤ → ℤ) → r ≡ op (held n) (held d) → r ≡ op n d
   answered op e = e ∙ ap₂ op (toZ-ofZ (fits-limit (h .dividend))) (toZ-ofZ (fits-limit (h .divisor)))

@@ -46,6 +46,10 @@ abbrev pub rem-bits : (ρ : List ℤ) (w : Width) (n d : ℤ) → SFits w n → 
     Denotes ρ (remZ (toZ w (ofZ w n)) (toZ w (ofZ w d)))
 rem-bits ρ w n d f g l = record { expr = l .expr; is = l .is ∙ sym (ap₂ remZ (toZ-ofZ f) (toZ-ofZ g)) }
 
+-- x as a local of 64 bits holds it
+abbrev pub held : ℤ → ℤ
+held x = toZ w64 (ofZ w64 x)
+
 pub ruleset signed = (facts, reads-fits, bits, quot-bits, rem-bits)
 
 -- ---- the tests `x == y` and `x == 0`, which are made on the bits
@@ -69,6 +73,10 @@ bits-zero w (pos a) f = refl
 bits-zero w (negsuc a) f =
     let some : 0 < ofZ w (negsuc a) = bits-nonzero w (negsuc a) f (λ e. omega (arith, ap negPart e)) in
     ne-eqb (ofZ w (negsuc a)) 0 (λ e. omega arith)
+
+-- ---- a natural number cast to a signed one
+pub cast : (n : ℕ) → n < 9223372036854775808 → toZ w64 n ≡ pos n
+cast n h = toZ-ofZ {w = w64} {z = pos n} record { sfits = h }
 
 -- ---- what a call on signed locals, and a branch on its result, tell of the numbers
 pub told : {w : Width} {x : ℤ} {r b : Bool} (test : ℤ → Bool) → SFits w x → r ≡ test (toZ w (ofZ w x)) → r ≡ b → test x ≡ b

@@ -4,12 +4,12 @@ use mathlib.Core.List.{[], _∷_}
 use native.Mathlib.Omega.{arith}
 use lib.IntN.{ℤ, pos, negℤ, _-ℤ_}
 use mir.Syntax.{w64}
-use mir.Val.{SFits, toZ, ofZ}
+use mir.Val.{SFits}
 use mir.Facts.{toZ-ofZ}
 use Rattle.ints.specs.Floor.{floorDiv, ceilDiv}
 use Rattle.ints.specs.Division.{InLimits}
 use Rattle.ints.proofs.Linear.{lin, lin₀, facts}
-use Rattle.ints.proofs.Signed.{signed}
+use Rattle.ints.proofs.Signed.{held, signed}
 use Rattle.ints.proofs.Floor.{floor-within}
 use Rattle.ints.proofs.Answers.{fits-limit, asked, answered}
 use Rattle.ints.proofs.ceiling.Statement.{statement}
@@ -20,16 +20,16 @@ module _ (n d : ℤ) (h : InLimits n d) where
   limits : InLimits (pos 0 -ℤ n) d
   limits = record { dividend = lin (n ∷ []) (h .dividend) (search facts depth 20) (omega arith); divisor = h .divisor; not-zero = h .not-zero }
 
-  turned-asked : SFits w64 (pos 0 -ℤ toZ w64 (ofZ w64 n))
+  turned-asked : SFits w64 (pos 0 -ℤ held n)
   turned-asked = rw (toZ-ofZ (fits-limit (h .dividend))) (fits-limit (limits .dividend))
 
-  limits-asked : InLimits (toZ w64 (ofZ w64 (pos 0 -ℤ toZ w64 (ofZ w64 n)))) (toZ w64 (ofZ w64 d))
+  limits-asked : InLimits (held (pos 0 -ℤ held n)) (held d)
   limits-asked = rw (toZ-ofZ (fits-limit (h .dividend))) (asked limits)
 
-  module _ (q : ℤ) (e : q ≡ floorDiv (toZ w64 (ofZ w64 (pos 0 -ℤ toZ w64 (ofZ w64 n)))) (toZ w64 (ofZ w64 d))) where
+  module _ (q : ℤ) (e : q ≡ floorDiv (held (pos 0 -ℤ held n)) (held d)) where
     q-is : q ≡ floorDiv (pos 0 -ℤ n) d
     q-is =
-        let e′ : q ≡ floorDiv (toZ w64 (ofZ w64 (pos 0 -ℤ n))) (toZ w64 (ofZ w64 d)) = rw (toZ-ofZ (fits-limit (h .dividend))) at e in
+        let e′ : q ≡ floorDiv (held (pos 0 -ℤ n)) (held d) = rw (toZ-ofZ (fits-limit (h .dividend))) at e in
         answered limits floorDiv e′
 
     fits-q : SFits w64 q
@@ -38,10 +38,10 @@ module _ (n d : ℤ) (h : InLimits n d) where
     fits-result : SFits w64 (pos 0 -ℤ q)
     fits-result = rw q-is (lin (floorDiv (pos 0 -ℤ n) d ∷ []) (floor-within (pos 0 -ℤ n) d (h .not-zero) (limits .dividend)) (search signed depth 20) (omega arith))
 
-    result-asked : SFits w64 (pos 0 -ℤ toZ w64 (ofZ w64 q))
+    result-asked : SFits w64 (pos 0 -ℤ held q)
     result-asked = rw (toZ-ofZ fits-q) fits-result
 
-    result-is : toZ w64 (ofZ w64 (pos 0 -ℤ toZ w64 (ofZ w64 q))) ≡ ceilDiv n d
+    result-is : held (pos 0 -ℤ held q) ≡ ceilDiv n d
     unfolding ceilDiv
     result-is =
         let turned : pos 0 -ℤ n ≡ negℤ n = lin₀ (n ∷ []) (search facts depth 20) (omega arith) in

@@ -6,12 +6,12 @@ use native.Mathlib.Omega.{arith}
 use lib.IntN.{ℤ, pos}
 use lib.Signed.{_<ℤ_, quotZ, remZ, ltZ}
 use mir.Syntax.{w64}
-use mir.Val.{SFits, toZ, ofZ}
+use mir.Val.{SFits}
 use mir.Facts.{toZ-ofZ}
 use Rattle.ints.specs.Floor.{floorDiv}
 use Rattle.ints.proofs.Order.{lt-true, lt-false}
 use Rattle.ints.proofs.Linear.{lin, _&_}
-use Rattle.ints.proofs.Signed.{signed, bits-nonzero}
+use Rattle.ints.proofs.Signed.{held, signed, bits-nonzero}
 use Rattle.ints.proofs.Truncated.{within-quot, within-rem, floor-same, floor-less, floor-same-neg, floor-less-neg}
 use Rattle.ints.proofs.floor_div.Statement.{statement}
 use Rattle.ints.proofs.floor_div.Tie as tie
@@ -29,19 +29,19 @@ module _ (s : lts.Start reads.Pre reads.Post) where
   abbrev ρ : List ℤ
   ρ = d ∷ quotZ n d ∷ remZ n d ∷ floorDiv n d ∷ []
 
-  fits-q : SFits w64 (quotZ (toZ w64 (ofZ w64 n)) (toZ w64 (ofZ w64 d)))
+  fits-q : SFits w64 (quotZ (held n) (held d))
   fits-q = lin ρ (within-quot d (s .pre .0)) (search (signed, s .fits .n, s .fits .d) depth 20) (omega arith)
 
-  fits-r : SFits w64 (remZ (toZ w64 (ofZ w64 n)) (toZ w64 (ofZ w64 d)))
+  fits-r : SFits w64 (remZ (held n) (held d))
   fits-r = lin ρ (within-rem d (s .pre .0)) (search (signed, s .fits .n, s .fits .d) depth 20) (omega arith)
 
-  r-is : toZ w64 (ofZ w64 (remZ (toZ w64 (ofZ w64 n)) (toZ w64 (ofZ w64 d)))) ≡ remZ n d
+  r-is : held (remZ (held n) (held d)) ≡ remZ n d
   r-is = toZ-ofZ fits-r ∙ ap₂ remZ (toZ-ofZ (s .fits .n)) (toZ-ofZ (s .fits .d))
 
-  positive : ltZ (pos 0) (toZ w64 (ofZ w64 d)) ≡ true → pos 0 <ℤ d
+  positive : ltZ (pos 0) (held d) ≡ true → pos 0 <ℤ d
   positive t = lin ρ t (search (signed, s .fits .d) depth 20) (omega arith)
 
-  negative : ltZ (pos 0) (toZ w64 (ofZ w64 d)) ≡ false → d <ℤ pos 0
+  negative : ltZ (pos 0) (held d) ≡ false → d <ℤ pos 0
   negative t = lin ρ (t & s .pre .1) (search (signed, s .fits .d) depth 20) (omega arith)
 
 div-q : tie.Need-div-q

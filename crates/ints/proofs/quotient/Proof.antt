@@ -5,11 +5,11 @@ use native.Mathlib.Omega.{arith}
 use Prim.Native.Nat.{ℕ}
 use lib.IntN.{ℤ}
 use mir.Syntax.{w64}
-use mir.Val.{SFits, toZ, ofZ}
+use mir.Val.{SFits}
 use mir.Facts.{toZ-ofZ}
 use mathlib.Core.List.{[], _∷_}
 use Rattle.ints.proofs.Linear.{lin}
-use Rattle.ints.proofs.Signed.{signed}
+use Rattle.ints.proofs.Signed.{held, signed}
 use Rattle.ints.proofs.Floor.{floor-within}
 use Rattle.ints.specs.Floor.{floorDiv}
 use Rattle.ints.specs.Division.{answerOf, division, InLimits, quotient, refused}
@@ -19,18 +19,18 @@ use Rattle.ints.proofs.quotient.Tie as tie
 
 -- with the bits of the locals taken away
 module _ (n d : ℤ) (f : SFits w64 n) (g : SFits w64 d) where
-  floor-of : (q : ℤ) → quotient q ≡ division (toZ w64 (ofZ w64 n)) (toZ w64 (ofZ w64 d)) → q ≡ floorDiv n d
+  floor-of : (q : ℤ) → quotient q ≡ division (held n) (held d) → q ≡ floorDiv n d
   floor-of q e =
-      let k : IsQuotient (toZ w64 (ofZ w64 n)) (toZ w64 (ofZ w64 d)) q = quotient-is _ _ q e in
+      let k : IsQuotient (held n) (held d) q = quotient-is _ _ q e in
       rw (toZ-ofZ f, toZ-ofZ g) at (k .is)
 
-  not-refused : {X : Type 0} {a b : ℕ} → InLimits n d → refused a b ≡ division (toZ w64 (ofZ w64 n)) (toZ w64 (ofZ w64 d)) → X
+  not-refused : {X : Type 0} {a b : ℕ} → InLimits n d → refused a b ≡ division (held n) (held d) → X
   not-refused {a} {b} h e =
       let e′ : refused a b ≡ division n d = rw (toZ-ofZ f, toZ-ofZ g) at e in
       let clash : refused a b ≡ quotient (floorDiv n d) = e′ ∙ gives-floor n d h in
       absurd (let z : _≡_ {A = ℕ} 0 1 = cc in omega arith)
 
-  fitting : (q : ℤ) → InLimits n d → q ≡ floorDiv n d → toZ w64 (ofZ w64 q) ≡ floorDiv n d
+  fitting : (q : ℤ) → InLimits n d → q ≡ floorDiv n d → held q ≡ floorDiv n d
   fitting q h e =
       let fits : SFits w64 (floorDiv n d) = lin (floorDiv n d ∷ []) (floor-within n d (h .not-zero) (h .dividend)) (search signed depth 20) (omega arith) in
       rw e (toZ-ofZ fits)

@@ -4,14 +4,14 @@ use borrow.Author.Needs.{needs}
 use Prim.Native.Nat.{_+_}
 use lib.Signed.{_≤ℤ_, _<ℤ_, natAbs-le, yes-nonNeg}
 use mir.Syntax.{w64}
-use mir.Val.{SFits, toZ, ofZ}
+use mir.Val.{SFits}
 use mir.Facts.{toZ-ofZ, fits-natAbs}
 use mathlib.Core.List.{[], _∷_}
 use native.Mathlib.Omega.{arith}
 use lib.IntN.{ℤ, pos, negsuc, natAbs, _-ℤ_}
 use Rattle.ints.proofs.Order.{lt-true, lt-false, abs-nonneg, abs-nonpos}
 use Rattle.ints.proofs.Linear.{facts, lin, _&_}
-use Rattle.ints.proofs.Signed.{signed}
+use Rattle.ints.proofs.Signed.{held, signed}
 use Rattle.ints.proofs.size.Statement.{statement}
 use Rattle.ints.proofs.size.Tie as tie
 use Rattle.ints.proofs.size.Reads as reads
@@ -37,8 +37,8 @@ module _ (c : lts.Then1 reads.Pre reads.Post) where
   fits-rest : SFits w64 (negsuc 0 -ℤ x)
   fits-rest = lin (x ∷ []) (below & c .before .fits .x) (search signed depth 20) (omega arith)
 
-  rest-is : toZ w64 (ofZ w64 (negsuc 0 -ℤ toZ w64 (ofZ w64 x))) ≡ negsuc 0 -ℤ x
-  rest-is = ap (λ t. toZ w64 (ofZ w64 (negsuc 0 -ℤ t))) (toZ-ofZ (c .before .fits .x)) ∙ toZ-ofZ fits-rest
+  rest-is : held (negsuc 0 -ℤ held x) ≡ negsuc 0 -ℤ x
+  rest-is = ap (λ t. held (negsuc 0 -ℤ t)) (toZ-ofZ (c .before .fits .x)) ∙ toZ-ofZ fits-rest
 
 sub-result : tie.Need-sub-result
 sub-result c = rw (toZ-ofZ (c .before .fits .x)) (fits-rest c)

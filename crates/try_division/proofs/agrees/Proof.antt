@@ -1,10 +1,9 @@
 -- `try_division::agrees` meets its contract: a pair that division did not refuse is within its limits.
 use mathlib.Core.Path.{sym, _∙_, ap}
-use mir.Syntax.{w64}
-use mir.Val.{toZ, ofZ}
 use Rattle.ints.specs.Division.{answerOf}
 use Rattle.ints.proofs.Answers.{IsQuotient, quotient-is}
 use borrow.Author.Needs.{needs}
+use Rattle.ints.proofs.Signed.{held}
 use Rattle.try_division.proofs.agrees.Statement.{statement}
 use Rattle.try_division.proofs.agrees.Tie as tie
 
@@ -18,7 +17,7 @@ is-floor-requires : tie.Need-is-floor-requires
 is-floor-requires c κs =
     let s = c .before .before .before .before in
     let e = ap answerOf (sym (c .before .q .given .1)) ∙ c .before .before .before .divide .ensures in
-    let k : IsQuotient (toZ w64 (ofZ w64 (s .args .n))) (toZ w64 (ofZ w64 (s .args .d))) (c .before .q .given .0 .0) = quotient-is _ _ _ e in
+    let k : IsQuotient (held (s .args .n)) (held (s .args .d)) (c .before .q .given .0 .0) = quotient-is _ _ _ e in
     k .inside
 
 returns : tie.Need-returns

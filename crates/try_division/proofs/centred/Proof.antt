@@ -2,8 +2,8 @@
 use Prim.Native.Nat.{ℕ, _*_, _≤_}
 use mir.Syntax.{w64}
 use mir.Val.{SFits, toZ}
-use mir.Facts.{toZ-ofZ}
 use Rattle.ints.proofs.{pos, _-ℤ_, [], _∷_, arith, lin₀, signed}
+use Rattle.ints.proofs.Signed.{cast}
 use borrow.Author.Needs.{needs}
 use Rattle.try_division.proofs.centred.Statement.{statement}
 use Rattle.try_division.proofs.centred.Tie as tie
@@ -11,10 +11,8 @@ use Rattle.try_division.proofs.centred.Tie as tie
 -- with the bits taken away
 fits : (x most : ℕ) → most ≤ 4000000000000000000 → x ≤ 2 * most → SFits w64 (toZ w64 x -ℤ toZ w64 most)
 fits x most h k =
-    let fx : SFits w64 (pos x) = lin₀ (pos x ∷ []) (search signed depth 20) (omega arith) in
-    let fm : SFits w64 (pos most) = lin₀ (pos most ∷ []) (search signed depth 20) (omega arith) in
     let f : SFits w64 (pos x -ℤ pos most) = lin₀ (pos x ∷ pos most ∷ []) (search signed depth 20) (omega arith) in
-    rw (toZ-ofZ {z = pos x} fx, toZ-ofZ {z = pos most} fm) f
+    rw (cast x (omega arith), cast most (omega arith)) f
 
 cast-result : tie.Need-cast-result
 cast-result c = search needs

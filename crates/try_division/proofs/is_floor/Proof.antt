@@ -5,12 +5,13 @@ use Prim.Native.Nat.{ℕ, _+_, _/_, _≤_}
 use native.Mathlib.Nat.{div-add-mod, div-le-self, le-refl}
 use borrow.Author.Needs.{needs}
 use mir.Syntax.{w64}
-use mir.Val.{SFits, toZ, ofZ}
+use mir.Val.{SFits}
 use mir.Facts.{toZ-ofZ}
 use Rattle.ints.specs.Within.{Within}
 use Rattle.ints.specs.Division.{InLimits}
 use Rattle.ints.proofs.{ℤ, pos, natAbs, _+ℤ_, _*ℤ_, _≤ℤ_, _<ℤ_, [], _∷_, arith, lin, _&_, signed, within-mul}
 use Rattle.ints.proofs.Order.{lt-true, lt-false, le-true, abs-zero}
+use Rattle.ints.proofs.Signed.{held}
 use Rattle.try_division.proofs.is_floor.Statement.{statement}
 use Rattle.try_division.proofs.is_floor.Tie as tie
 use Rattle.try_division.proofs.is_floor.Reads as reads
@@ -62,10 +63,10 @@ module _ (c : lts.Else1 (size-reads.Asked, size-reads.Learnt) reads.Pre reads.Po
       (rw (toZ-ofZ fq) at (c .before .size3 .ensures))
       (c .if1 .left)
 
-  fits-p : SFits w64 (toZ w64 (ofZ w64 d) *ℤ toZ w64 (ofZ w64 q))
+  fits-p : SFits w64 (held d *ℤ held q)
   fits-p = rw (toZ-ofZ fd, toZ-ofZ fq) (lin (d ∷ q ∷ []) wide (search signed depth 20) (omega arith))
 
-  p-is : toZ w64 (ofZ w64 (toZ w64 (ofZ w64 d) *ℤ toZ w64 (ofZ w64 q))) ≡ d *ℤ q
+  p-is : held (held d *ℤ held q) ≡ d *ℤ q
   p-is = toZ-ofZ fits-p ∙ ap₂ _*ℤ_ (toZ-ofZ fd) (toZ-ofZ fq)
 
 size-requires : tie.Need-size-requires
