@@ -1,0 +1,10 @@
+-- What the contracts over runs cite. Read in this order; proofs/Lib.antt has the laws.
+
+-- a run, its numbers, its one form
+pub mod Run
+-- the run of a rising list; meeting and carrying by exhaustive search
+pub mod Search
+-- what the two workings answer, and when they refuse
+pub mod Workings
+-- the definitions at worked values
+pub mod Values
