@@ -3,3 +3,11 @@
 
 -- a run's numbers; a run in its one form is determined by its members
 pub mod Members
+-- arithmetic progressions over ℤ
+pub mod Progressions
+-- a run as the part of a residue class from its first to its last number, and how large it is
+pub mod Spans
+-- what is common to two intervals
+pub mod Intervals
+-- the part of a residue class in an interval as a run
+pub mod Clips

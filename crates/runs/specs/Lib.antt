@@ -6,5 +6,7 @@ pub mod Run
 pub mod Search
 -- what the two workings answer, and when they refuse
 pub mod Workings
+-- the method: residue classes, a congruence, the greatest common divisor (what inner functions promise)
+pub mod Method
 -- the definitions at worked values
 pub mod Values

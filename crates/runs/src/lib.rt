@@ -6,6 +6,11 @@ ghost use mathlib.Core.Path.{_≡_};
 ghost use Rattle.runs.specs.Run.{full, empty};
 use reasons::Reason;
 
+// u·i ≡ v (mod d)
+mod congruence;
+// the members of a residue class in an interval
+mod class;
+
 /// An arithmetic progression, document 01's run: `many` numbers, from `first` on by `step`. Its one form: empty is 0, 0, 0;
 /// one number has step 0; otherwise the step is at least 1; and all its numbers lie within ±1,000,000,000.
 pub struct Run {

@@ -1,0 +1,77 @@
+//! Residue classes and intervals: the members of a class from a low to a high number are a run.
+
+ghost use mathlib.Core.Path.{_≡_};
+ghost use Rattle.runs.specs.Method.{greater, smaller, common, Clippable, clip, progression};
+ghost use Prim.Native.Nat.{ℕ, _≤_};
+use crate::Run;
+
+/// The whole numbers first + step·k for every whole k.
+pub struct Class {
+    pub first: i64,
+    pub step: i64,
+}
+
+/// From a low to a high number, both included.
+pub struct Interval {
+    pub low: i64,
+    pub high: i64,
+}
+
+impl Interval {
+    /// The numbers in both.
+    pub fn common(self, other: Interval) -> Interval
+        ensures { λ r. ⌜ r ≡ common self other ⌝ }
+    {
+        Interval {
+            low: greater(self.low, other.low),
+            high: smaller(self.high, other.high),
+        }
+    }
+}
+
+fn greater(x: i64, y: i64) -> i64
+    ensures { λ r. ⌜ r ≡ greater x y ⌝ }
+{
+    if x < y { y } else { x }
+}
+
+fn smaller(x: i64, y: i64) -> i64
+    ensures { λ r. ⌜ r ≡ smaller x y ⌝ }
+{
+    if x < y { x } else { y }
+}
+
+impl Class {
+    /// The run of the members in an interval.
+    pub fn clip(self, to: Interval) -> Run
+        requires { ⌜ Clippable self to ⌝ }
+        ensures { λ r. ⌜ r ≡ clip self to ⌝ }
+    {
+        let lowest = to.low + ints::remainder(self.first - to.low, self.step);
+        if to.high < lowest {
+            return Run::empty();
+        }
+        let steps = ints::quotient(to.high - lowest, self.step);
+        progression(lowest, self.step, steps as u32)
+    }
+}
+
+// A single number has step 0.
+fn progression(first: i64, step: i64, more: u32) -> Run
+    requires { ⌜ more ≤ 2000000000 ⌝ }
+    ensures { λ r. ⌜ r ≡ progression first step more ⌝ }
+{
+    if more == 0 {
+        Run {
+            first: first,
+            step: 0,
+            many: 1,
+        }
+    } else {
+        Run {
+            first: first,
+            step: step,
+            many: more + 1,
+        }
+    }
+}
