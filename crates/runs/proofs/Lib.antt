@@ -11,3 +11,9 @@ pub mod Spans
 pub mod Intervals
 -- the part of a residue class in an interval as a run
 pub mod Clips
+-- the greatest common divisor: the loop of Euclid's algorithm
+pub mod Euclid
+-- the solutions of a congruence
+pub mod Solving
+-- the period of a congruence's solutions
+pub mod Periods

@@ -1,6 +1,9 @@
 //! The congruence u·i ≡ v (mod d).
 
+ghost use Rattle.ints.specs.Divides.{_∣ℤ_};
+ghost use Rattle.runs.specs.Method.{IsFactor, InReach, AllSolutions, Solves};
 use crate::class::Class;
+use crate::factor::Factor;
 
 /// u·i ≡ v (mod d), for an unknown i.
 pub struct Congruence {
@@ -13,4 +16,35 @@ pub struct Congruence {
 pub enum Solutions {
     Nothing,
     Every(Class),
+}
+
+impl Congruence {
+    pub fn solve(self) -> Solutions
+        requires { ⌜ InReach self ⌝ }
+        ensures { λ r. ⌜ Solves self r ⌝ }
+    {
+        let f = Factor::of(self.u, self.d);
+        if 0 < ints::remainder(self.v, f.gcd) {
+            Solutions::Nothing
+        } else {
+            Solutions::Every(self.class_by(f))
+        }
+    }
+
+    // The greatest common divisor divides v, and v divided by it, times the cofactor, is a solution. The factors are
+    // reduced first, so that the product is at most 4,000,000,000,000,000,000.
+    fn class_by(self, f: Factor) -> Class
+        requires { ⌜ InReach self ⌝ }
+        requires { ⌜ IsFactor (self .u) (self .d) (f .gcd) (f .cofactor) ⌝ }
+        requires { ⌜ (f .gcd) ∣ℤ (self .v) ⌝ }
+        ensures { λ c. ⌜ AllSolutions self c ⌝ }
+    {
+        let step = ints::quotient(self.d, f.gcd);
+        let x = ints::remainder(f.cofactor, step);
+        let y = ints::remainder(ints::quotient(self.v, f.gcd), step);
+        Class {
+            first: ints::remainder(x * y, step),
+            step: step,
+        }
+    }
 }

@@ -6,6 +6,8 @@ ghost use mathlib.Core.Path.{_≡_};
 ghost use Rattle.runs.specs.Run.{full, empty};
 use reasons::Reason;
 
+// the greatest common divisor, with a cofactor
+mod factor;
 // u·i ≡ v (mod d)
 mod congruence;
 // the members of a residue class in an interval
