@@ -17,3 +17,5 @@ pub mod Euclid
 pub mod Solving
 -- the period of a congruence's solutions
 pub mod Periods
+-- meeting: the model is the definition
+pub mod Meets

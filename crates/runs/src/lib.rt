@@ -3,7 +3,10 @@
 //! Read `specs/Lib.antt` for the definitions, then this file, then the modules from the bottom up.
 
 ghost use mathlib.Core.Path.{_≡_};
-ghost use Rattle.runs.specs.Run.{full, empty};
+ghost use Prim.Native.Nat.{ℕ, _≤_};
+ghost use Rattle.runs.specs.Run.{OneForm, full, empty};
+ghost use Rattle.runs.specs.Search.{meet};
+ghost use Rattle.runs.specs.Method.{placesIn, stride, span, numbersAt, Places};
 use reasons::Reason;
 
 // the greatest common divisor, with a cofactor
@@ -12,6 +15,11 @@ mod factor;
 mod congruence;
 // the members of a residue class in an interval
 mod class;
+
+use class::Class;
+use class::Interval;
+use congruence::Congruence;
+use congruence::Solutions;
 
 /// An arithmetic progression, document 01's run: `many` numbers, from `first` on by `step`. Its one form: empty is 0, 0, 0;
 /// one number has step 0; otherwise the step is at least 1; and all its numbers lie within ±1,000,000,000.
@@ -54,6 +62,73 @@ impl Run {
             first: 0,
             step: 0,
             many: 0,
+        }
+    }
+
+    /// The numbers in both: the intersection.
+    pub fn meet(self, other: Run) -> Run
+        requires { ⌜ OneForm self ⌝ }
+        requires { ⌜ OneForm other ⌝ }
+        ensures { λ r. ⌜ r ≡ meet self other ⌝ }
+    {
+        if self.many == 0 {
+            return Run::empty();
+        }
+        if other.many == 0 {
+            return Run::empty();
+        }
+        let solutions = self.places_in(other).solve();
+        match solutions {
+            Solutions::Nothing => Run::empty(),
+            Solutions::Every(i) => self.numbers_at(i).clip(self.span().common(other.span())),
+        }
+    }
+
+    // The places at which this run's class has the numbers of the other's.
+    fn places_in(self, other: Run) -> Congruence
+        requires { ⌜ OneForm self ⌝ }
+        requires { ⌜ 1 ≤ self .many ⌝ }
+        requires { ⌜ OneForm other ⌝ }
+        requires { ⌜ 1 ≤ other .many ⌝ }
+        ensures { λ r. ⌜ r ≡ placesIn self other ⌝ }
+    {
+        Congruence {
+            u: self.stride(),
+            v: other.first - self.first,
+            d: other.stride(),
+        }
+    }
+
+    // The step, and 1 for a single number.
+    fn stride(self) -> i64
+        ensures { λ r. ⌜ r ≡ stride self ⌝ }
+    {
+        if self.many == 1 { 1 } else { self.step }
+    }
+
+    // From the first to the last number.
+    fn span(self) -> Interval
+        requires { ⌜ OneForm self ⌝ }
+        requires { ⌜ 1 ≤ self .many ⌝ }
+        ensures { λ r. ⌜ r ≡ span self ⌝ }
+    {
+        Interval {
+            low: self.first,
+            high: self.first + self.step * (self.many as i64 - 1),
+        }
+    }
+
+    // The class of the numbers at the places of a class.
+    fn numbers_at(self, places: Class) -> Class
+        requires { ⌜ OneForm self ⌝ }
+        requires { ⌜ 1 ≤ self .many ⌝ }
+        requires { ⌜ Places places ⌝ }
+        ensures { λ r. ⌜ r ≡ numbersAt self places ⌝ }
+    {
+        let s = self.stride();
+        Class {
+            first: self.first + s * places.first,
+            step: s * places.step,
         }
     }
 }
