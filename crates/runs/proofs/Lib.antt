@@ -17,5 +17,9 @@ pub mod Euclid
 pub mod Solving
 -- the period of a congruence's solutions
 pub mod Periods
+-- how large the numbers of carrying are
+pub mod Widths
 -- meeting: the model is the definition
 pub mod Meets
+-- carrying: the model is the definition
+pub mod Carries

@@ -5,7 +5,8 @@
 ghost use mathlib.Core.Path.{_≡_};
 ghost use Prim.Native.Nat.{ℕ, _≤_};
 ghost use Rattle.runs.specs.Run.{OneForm, full, empty};
-ghost use Rattle.runs.specs.Search.{meet};
+ghost use Rattle.runs.specs.Search.{meet, carry};
+ghost use Rattle.runs.specs.Workings.{InLimits};
 ghost use Rattle.runs.specs.Method.{placesIn, stride, span, numbersAt, Places};
 use reasons::Reason;
 
@@ -15,6 +16,8 @@ mod factor;
 mod congruence;
 // the members of a residue class in an interval
 mod class;
+// the parts of carrying
+mod partners;
 
 use class::Class;
 use class::Interval;
@@ -81,6 +84,23 @@ impl Run {
         match solutions {
             Solutions::Nothing => Run::empty(),
             Solutions::Every(i) => self.numbers_at(i).clip(self.span().common(other.span())),
+        }
+    }
+
+    /// All p within ±1,000,000,000 that have a partner in this run of q: the image under the equation.
+    pub fn carry(self, e: Equation) -> Run
+        requires { ⌜ OneForm self ⌝ }
+        requires { ⌜ InLimits e ⌝ }
+        ensures { λ r. ⌜ r ≡ carry (e .a) (e .b) (e .c) self ⌝ }
+    {
+        if self.many == 0 {
+            return Run::empty();
+        }
+        let up = e.upright();
+        let solutions = up.places(self).solve();
+        match solutions {
+            Solutions::Nothing => Run::empty(),
+            Solutions::Every(j) => up.carried(self, j),
         }
     }
 

@@ -1,0 +1,41 @@
+-- How large the numbers are that carrying works with: within the limits each fits 64 bits.
+use mir.Syntax.{w64}
+use mir.Val.{SFits}
+use Rattle.ints.specs.Within.{Within}
+use Rattle.ints.proofs.{ℤ, _*ℤ_, [], _∷_, arith, lin, _&_, facts, within-mul, signed}
+use Rattle.runs.specs.Run.{bound}
+use Rattle.runs.specs.Workings.{Equation, InLimits}
+use Rattle.runs.specs.Method.{value}
+-- the same names for the division's limits
+use Rattle.ints.specs.Division as division
+
+module _ {e : Equation} (lim : InLimits e) where
+  pub fits-a : SFits w64 (e .a)
+  fits-a = lin (e .a ∷ []) (lim .left) (search signed depth 20) (omega arith)
+
+  pub fits-b : SFits w64 (e .b)
+  fits-b = lin (e .b ∷ []) (lim .right) (search signed depth 20) (omega arith)
+
+  pub fits-c : SFits w64 (e .c)
+  fits-c = lin (e .c ∷ []) (lim .constant) (search signed depth 20) (omega arith)
+
+  -- c − b·q of a number within the range
+  module _ {q : ℤ} (w : Within bound q) where
+    pub fits-q : SFits w64 q
+    fits-q = lin (q ∷ []) w (search signed depth 20) (omega arith)
+
+    pub fits-product : SFits w64 (e .b *ℤ q)
+    fits-product = lin (e .b ∷ q ∷ []) (within-mul (lim .right) w) (search signed depth 20) (omega arith)
+
+    pub value-within : Within 3000000000000000 (value e q)
+    value-within = lin (e .b ∷ e .c ∷ q ∷ []) (lim .constant & within-mul (lim .right) w) (search facts depth 20) (omega arith)
+
+    pub fits-value : SFits w64 (value e q)
+    fits-value = lin (value e q ∷ []) value-within (search signed depth 20) (omega arith)
+
+    pub limits-value : division.InLimits (value e q) (e .a)
+    limits-value = record {
+      dividend = lin (value e q ∷ []) value-within (search facts depth 20) (omega arith);
+      divisor = lin (e .a ∷ []) (lim .left) (search facts depth 20) (omega arith);
+      not-zero = lim .left-not-zero;
+    }

@@ -1,0 +1,119 @@
+//! Carrying, for an equation a·p + b·q = c with a above 0: which p have their partner in a run of q.
+
+ghost use mathlib.Core.Path.{_≡_};
+ghost use Prim.Native.Nat.{ℕ, _≤_};
+ghost use lib.IntN.{pos};
+ghost use lib.Signed.{_≤ℤ_, _<ℤ_};
+ghost use Rattle.ints.specs.Within.{Within};
+ghost use Rattle.runs.specs.Run.{OneForm, bound};
+ghost use Rattle.runs.specs.Workings.{InLimits};
+ghost use Rattle.runs.specs.Method.{upright, value, placesWithPartner, Period, stepOf, between, image, AllSolutions, carryBy};
+ghost use Rattle.runs.specs.declared.congruence.Solutions.the-variants.{Every};
+use crate::Equation;
+use crate::Run;
+use crate::class::Class;
+use crate::class::Interval;
+use crate::congruence::Congruence;
+
+impl Equation {
+    // The same equation with a above 0.
+    pub(crate) fn upright(self) -> Equation
+        requires { ⌜ InLimits self ⌝ }
+        ensures { λ r. ⌜ r ≡ upright self ⌝ }
+    {
+        if self.a < 0 {
+            Equation {
+                a: -self.a,
+                b: -self.b,
+                c: -self.c,
+            }
+        } else {
+            self
+        }
+    }
+
+    // The places in a run of the numbers with a partner.
+    pub(crate) fn places(self, q: Run) -> Congruence
+        requires { ⌜ InLimits self ⌝ }
+        requires { ⌜ OneForm q ⌝ }
+        requires { ⌜ 1 ≤ q .many ⌝ }
+        ensures { λ r. ⌜ r ≡ placesWithPartner self q ⌝ }
+    {
+        Congruence {
+            u: self.b * q.stride(),
+            v: self.value(q.first),
+            d: self.a,
+        }
+    }
+
+    // The run of the p, from the places of their partners. No place is before the first, so that where the first is past
+    // the end there is none; a low end that is reached only past the high end is told by `clip`.
+    pub(crate) fn carried(self, q: Run, j: Class) -> Run
+        requires { ⌜ InLimits self ⌝ }
+        requires { ⌜ pos 0 <ℤ self .a ⌝ }
+        requires { ⌜ OneForm q ⌝ }
+        requires { ⌜ 1 ≤ q .many ⌝ }
+        requires { ⌜ AllSolutions (placesWithPartner self q) j ⌝ }
+        ensures { λ r. ⌜ r ≡ carryBy (Every j) self q ⌝ }
+    {
+        let start = q.numbers_at(j).first;
+        let ends = q.span();
+        if ends.high < start {
+            return Run::empty();
+        }
+        let first = ints::quotient(self.value(start), self.a);
+        let step = self.step_of(q.stride(), j.step);
+        let within = self.image(ends).common(Run::full().span());
+        Class {
+            first: first,
+            step: step,
+        }.clip(within)
+    }
+
+    fn value(self, q: i64) -> i64
+        requires { ⌜ InLimits self ⌝ }
+        requires { ⌜ Within bound q ⌝ }
+        ensures { λ r. ⌜ r ≡ value self q ⌝ }
+    {
+        self.c - self.b * q
+    }
+
+    // From one p to the next, where q moves by a stride and has a partner once a period.
+    fn step_of(self, stride: i64, period: i64) -> i64
+        requires { ⌜ InLimits self ⌝ }
+        requires { ⌜ Period self stride period ⌝ }
+        ensures { λ r. ⌜ r ≡ stepOf self stride period ⌝ }
+    {
+        ints::quotient(
+            ints::size(self.b) as i64 * stride,
+            ints::quotient(self.a, period),
+        )
+    }
+
+    // The p whose partners lie in an interval: a positive b turns low and high round.
+    fn image(self, i: Interval) -> Interval
+        requires { ⌜ InLimits self ⌝ }
+        requires { ⌜ Within bound (i .low) ⌝ }
+        requires { ⌜ Within bound (i .high) ⌝ }
+        ensures { λ r. ⌜ r ≡ image self i ⌝ }
+    {
+        if 0 < self.b {
+            self.between(i.high, i.low)
+        } else {
+            self.between(i.low, i.high)
+        }
+    }
+
+    // The p between the partners of two q: the low end is rounded up, the high end down.
+    fn between(self, from: i64, to: i64) -> Interval
+        requires { ⌜ InLimits self ⌝ }
+        requires { ⌜ Within bound from ⌝ }
+        requires { ⌜ Within bound to ⌝ }
+        ensures { λ r. ⌜ r ≡ between self from to ⌝ }
+    {
+        Interval {
+            low: ints::ceiling(self.value(from), self.a),
+            high: ints::quotient(self.value(to), self.a),
+        }
+    }
+}
