@@ -23,3 +23,5 @@ pub mod Widths
 pub mod Meets
 -- carrying: the model is the definition
 pub mod Carries
+-- the tests on which a working refuses, and that it refuses just there
+pub mod Refusals

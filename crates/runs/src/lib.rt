@@ -6,7 +6,7 @@ ghost use mathlib.Core.Path.{_≡_};
 ghost use Prim.Native.Nat.{ℕ, _≤_};
 ghost use Rattle.runs.specs.Run.{OneForm, full, empty};
 ghost use Rattle.runs.specs.Search.{meet, carry};
-ghost use Rattle.runs.specs.Workings.{InLimits};
+ghost use Rattle.runs.specs.Workings.{InLimits, answerOf, RefusedUnless, meeting, carrying};
 ghost use Rattle.runs.specs.Method.{placesIn, stride, span, numbersAt, Places};
 use reasons::Reason;
 
@@ -18,6 +18,8 @@ mod congruence;
 mod class;
 // the parts of carrying
 mod partners;
+// the tests on which a working refuses
+mod form;
 
 use class::Class;
 use class::Interval;
@@ -43,6 +45,34 @@ pub struct Equation {
 pub enum Working {
     Gives(Run),
     Refused(Reason),
+}
+
+/// Two runs meet in the run of the numbers in both. Refused where one of them is not in its one form.
+pub fn meeting(a: Run, b: Run) -> Working
+    ensures { λ r. ⌜ answerOf r ≡ meeting a b ⌝ }
+    ensures { λ r. ⌜ RefusedUnless (OneForm a × OneForm b) (answerOf r) ⌝ }
+{
+    if a.is_one_form() {
+        if b.is_one_form() {
+            return Working::Gives(a.meet(b));
+        }
+    }
+    Working::Refused(Reason::WrongArgument)
+}
+
+/// A run of q is carried to the run of all p within ±1,000,000,000 that have a partner q in it, with a·p + b·q = c.
+/// Refused where the run is not in its one form, where a or b is 0 or larger than 1,000,000 in size, or where c is larger
+/// than 2,000,000,000,000,000.
+pub fn carrying(e: Equation, q: Run) -> Working
+    ensures { λ r. ⌜ answerOf r ≡ carrying e q ⌝ }
+    ensures { λ r. ⌜ RefusedUnless (InLimits e × OneForm q) (answerOf r) ⌝ }
+{
+    if e.in_limits() {
+        if q.is_one_form() {
+            return Working::Gives(q.carry(e));
+        }
+    }
+    Working::Refused(Reason::WrongArgument)
 }
 
 impl Run {

@@ -1,0 +1,174 @@
+-- The tests of the one form and of the limits, and what they say; so a working answers a run just within its limits, and
+-- is refused just outside them.
+use mathlib.Core.Path.{_≡_, refl, sym, _∙_, ap}
+use mathlib.Core.Logic.{_↔_, _≢_, Iff·trans}
+use mathlib.Core.Bool.{Bool, true, false, not, _&&_, cond, and-eq-true-iff, true≢false}
+use mathlib.Core.List.{[], _∷_}
+use Prim.Native.Nat.{ℕ, zero, suc, _≤_}
+use borrow.Author.Tests.{not-true}
+use Rattle.ints.specs.Within.{Within, isWithin}
+use Rattle.ints.specs.Equal.{isEqual}
+use Rattle.ints.proofs.{ℤ, pos, _-ℤ_, _*ℤ_, _≤ℤ_, _<ℤ_, arith, lin, _&_, facts}
+use Rattle.ints.proofs.Order.{le-true}
+use Rattle.ints.proofs.Equal.{equal-true}
+use Rattle.ints.proofs.Within.{within-true}
+use Rattle.lists.specs.Keep.{every}
+use Rattle.lists.proofs.Keep.{every-iff}
+use Rattle.runs.specs.Run.{Run, numbers, InRun, OneForm, bound, isFormed, isOneForm}
+use Rattle.runs.specs.Search.{meet, carry}
+use Rattle.runs.specs.Workings.{Equation, InLimits, isCoefficient, inLimits, Answer, run, refused, RefusedUnless, meeting, carrying}
+use Rattle.runs.specs.Method.{span}
+use Rattle.ints.specs.Divides.{Congruent}
+use Rattle.runs.proofs.Members.{in-numbers, no-place}
+use Rattle.runs.proofs.Progressions.{along-iff, in-along}
+
+-- ---- tests as truths
+pub when : {P : Type 0} {t u : Bool} → (u ≡ true) ↔ P → (t ≡ true) ↔ P → t ≡ u
+when {t = true} {u = true} h k = refl
+when {t = true} {u = false} h k = sym (h .1 (k .0 refl))
+when {t = false} {u = true} h k = k .1 (h .0 refl)
+when {t = false} {u = false} h k = refl
+
+-- ---- the one form
+-- as far as the three numbers say
+record Formed (f s : ℤ) (n : ℕ) : Type 0 where
+  empty : n ≡ 0 → (f ≡ pos 0) × (s ≡ pos 0)
+  one : n ≡ 1 → s ≡ pos 0
+  rises : 2 ≤ n → pos 1 ≤ℤ s
+
+formed-iff : (f s : ℤ) (n : ℕ) → (isFormed f s n ≡ true) ↔ Formed f s n
+formed-iff f s zero = Iff·trans (and-eq-true-iff (isEqual f (pos 0)) (isEqual s (pos 0))) (
+  λ p. record { empty = λ e. (equal-true f (pos 0) .0 (p .0), equal-true s (pos 0) .0 (p .1)); one = λ e. absurd (omega arith); rises = λ h. absurd (omega arith) },
+  λ k. (equal-true f (pos 0) .1 (k .empty refl .0), equal-true s (pos 0) .1 (k .empty refl .1)),
+)
+formed-iff f s (suc zero) = Iff·trans (equal-true s (pos 0)) (
+  λ e. record { empty = λ z. absurd (omega arith); one = λ z. e; rises = λ h. absurd (omega arith) },
+  λ k. k .one refl,
+)
+formed-iff f s (suc (suc n)) = Iff·trans (le-true (pos 1) s) (
+  λ h. record { empty = λ z. absurd (omega arith); one = λ z. absurd (omega arith); rises = λ z. h },
+  λ k. k .rises (omega arith),
+)
+
+all-within : (r : Run) → (every (isWithin bound) (numbers r) ≡ true) ↔ ((x : ℤ) → InRun r x → Within bound x)
+all-within r = Iff·trans (every-iff (isWithin bound) (numbers r)) (
+  λ f x h. within-true bound x .0 (f x (in-numbers r x .1 h)),
+  λ f x h. within-true bound x .1 (f x (in-numbers r x .0 h)),
+)
+
+pub one-form-iff : (r : Run) → (isOneForm r ≡ true) ↔ OneForm r
+one-form-iff r = Iff·trans (and-eq-true-iff (isFormed (r .first) (r .step) (r .many)) (every (isWithin bound) (numbers r))) (to, from)
+  where
+    to : (isFormed (r .first) (r .step) (r .many) ≡ true) × (every (isWithin bound) (numbers r) ≡ true) → OneForm r
+    to (f, w) =
+        let k : Formed (r .first) (r .step) (r .many) = formed-iff (r .first) (r .step) (r .many) .0 f in
+        record { empty = k .empty; one = k .one; rises = k .rises; inside = all-within r .0 w }
+
+    from : OneForm r → (isFormed (r .first) (r .step) (r .many) ≡ true) × (every (isWithin bound) (numbers r) ≡ true)
+    from o = (formed-iff (r .first) (r .step) (r .many) .1 record { empty = o .empty; one = o .one; rises = o .rises }, all-within r .1 (o .inside))
+
+-- as a program tests it. Two numbers or more: the step, and the two ends
+pub rising-form : (r : Run) → 2 ≤ r .many → pos 1 ≤ℤ r .step → Within bound (r .first) → Within bound (span r .high) → OneForm r
+rising-form r h up a b = record {
+  empty = λ e. absurd (omega (arith, h, e));
+  one = λ e. absurd (omega (arith, h, e));
+  rises = λ k. up;
+  inside = λ x k. within x (along-iff (r .first) (r .step) (pos (r .many) -ℤ pos 1) x above .0 (in-along r x .0 k));
+}
+  where
+    above : pos 0 <ℤ r .step
+    above = lin (r .step ∷ []) up (search facts depth 20) (omega arith)
+
+    within : (x : ℤ) → Congruent (r .step) x (r .first) × (r .first ≤ℤ x) × (x ≤ℤ span r .high) → Within bound x
+    within x (c, l, u) = lin (r .first ∷ x ∷ span r .high ∷ []) (a & b & l & u) (search facts depth 20) (omega arith)
+
+-- one number
+pub single-form : (r : Run) → r .many ≡ 1 → r .step ≡ pos 0 → Within bound (r .first) → OneForm r
+single-form r z e w = record {
+  empty = λ k. absurd (omega (arith, z, k));
+  one = λ k. e;
+  rises = λ k. absurd (omega (arith, z, k));
+  inside = λ x k. alone x k;
+}
+  where
+    alone : (x : ℤ) → InRun r x → Within bound x
+    alone x k =
+        let is : x ≡ r .first = k .is ∙ lin (r .first ∷ r .step ∷ pos (k .place) ∷ []) (ap (λ t. t *ℤ pos (k .place)) e) (search facts depth 20) (omega arith) in
+        rw is w
+
+-- none
+pub none-form : (r : Run) → r .many ≡ 0 → r .first ≡ pos 0 → r .step ≡ pos 0 → OneForm r
+none-form r z a b = record {
+  empty = λ k. (a, b);
+  one = λ k. b;
+  rises = λ k. absurd (omega (arith, z, k));
+  inside = λ x k. absurd (no-place z k);
+}
+
+-- ---- the limits of carrying
+coefficient-iff : (x : ℤ) → (isCoefficient x ≡ true) ↔ (Within 1000000 x × (x ≢ pos 0))
+coefficient-iff x = Iff·trans (and-eq-true-iff (isWithin 1000000 x) (not (isEqual x (pos 0)))) (to, from)
+  where
+    to : (isWithin 1000000 x ≡ true) × (not (isEqual x (pos 0)) ≡ true) → Within 1000000 x × (x ≢ pos 0)
+    to (a, b) = (within-true 1000000 x .0 a, λ z. true≢false (sym (equal-true x (pos 0) .1 z) ∙ not-true (isEqual x (pos 0)) b))
+
+    from : Within 1000000 x × (x ≢ pos 0) → (isWithin 1000000 x ≡ true) × (not (isEqual x (pos 0)) ≡ true)
+    from (a, b) = (within-true 1000000 x .1 a, differs (isEqual x (pos 0)) (λ t. b (equal-true x (pos 0) .0 t)))
+      where
+        differs : (t : Bool) → (t ≡ true → ⊥) → not t ≡ true
+        differs true h = absurd (h refl)
+        differs false h = refl
+
+pub in-limits-iff : (e : Equation) → (inLimits e ≡ true) ↔ InLimits e
+in-limits-iff e = (to, from)
+  where
+    split : (inLimits e ≡ true) ↔ ((isCoefficient (e .a) ≡ true) × (isCoefficient (e .b) && isWithin 2000000000000000 (e .c) ≡ true))
+    split = and-eq-true-iff (isCoefficient (e .a)) (isCoefficient (e .b) && isWithin 2000000000000000 (e .c))
+
+    rest : (isCoefficient (e .b) && isWithin 2000000000000000 (e .c) ≡ true) ↔ ((isCoefficient (e .b) ≡ true) × (isWithin 2000000000000000 (e .c) ≡ true))
+    rest = and-eq-true-iff (isCoefficient (e .b)) (isWithin 2000000000000000 (e .c))
+
+    to : inLimits e ≡ true → InLimits e
+    to t =
+        let (a, bc) = split .0 t in
+        let (b, c) = rest .0 bc in
+        let (la, na) = coefficient-iff (e .a) .0 a in
+        let (lb, nb) = coefficient-iff (e .b) .0 b in
+        record { left = la; left-not-zero = na; right = lb; right-not-zero = nb; constant = within-true 2000000000000000 (e .c) .0 c }
+
+    from : InLimits e → inLimits e ≡ true
+    from k = split .1 (
+      coefficient-iff (e .a) .1 (k .left, k .left-not-zero),
+      rest .1 (coefficient-iff (e .b) .1 (k .right, k .right-not-zero), within-true 2000000000000000 (e .c) .1 (k .constant)),
+    )
+
+-- ---- the answers
+not-both : {r : Run} {m n : ℕ} → run r ≡ refused m n → ⊥
+not-both {r} {m} {n} e = let z : _≡_ {A = ℕ} 0 1 = cc in omega arith
+
+pub meeting-gives : {a b : Run} → OneForm a → OneForm b → meeting a b ≡ run (meet a b)
+meeting-gives {a} {b} o o′ = rw (one-form-iff a .1 o, one-form-iff b .1 o′) refl
+
+pub meeting-refuses : (a b : Run) → ¬ (OneForm a × OneForm b) → meeting a b ≡ refused 9 0
+meeting-refuses a b h = go (isOneForm a && isOneForm b) refl
+  where
+    go : (t : Bool) → isOneForm a && isOneForm b ≡ t → cond t (run (meet a b)) (refused 9 0) ≡ refused 9 0
+    go true t = let (u, v) = and-eq-true-iff (isOneForm a) (isOneForm b) .0 t in absurd (h (one-form-iff a .0 u, one-form-iff b .0 v))
+    go false t = refl
+
+pub carrying-gives : {e : Equation} {q : Run} → InLimits e → OneForm q → carrying e q ≡ run (carry (e .a) (e .b) (e .c) q)
+carrying-gives {e} {q} k o = rw (in-limits-iff e .1 k, one-form-iff q .1 o) refl
+
+pub carrying-refuses : (e : Equation) (q : Run) → ¬ (InLimits e × OneForm q) → carrying e q ≡ refused 9 0
+carrying-refuses e q h = go (inLimits e && isOneForm q) refl
+  where
+    go : (t : Bool) → inLimits e && isOneForm q ≡ t → cond t (run (carry (e .a) (e .b) (e .c) q)) (refused 9 0) ≡ refused 9 0
+    go true t = let (u, v) = and-eq-true-iff (inLimits e) (isOneForm q) .0 t in absurd (h (in-limits-iff e .0 u, one-form-iff q .0 v))
+    go false t = refl
+
+-- the same in one: refused exactly when the arguments are not lawful
+pub meeting-unless : {a b : Run} {x : Answer} → x ≡ meeting a b → RefusedUnless (OneForm a × OneForm b) x
+meeting-unless {a} {b} {x} e = (λ z p. not-both (sym (meeting-gives (p .0) (p .1)) ∙ sym e ∙ z), λ h. e ∙ meeting-refuses a b h)
+
+pub carrying-unless : {e : Equation} {q : Run} {x : Answer} → x ≡ carrying e q → RefusedUnless (InLimits e × OneForm q) x
+carrying-unless {e} {q} {x} is = (λ z p. not-both (sym (carrying-gives (p .0) (p .1)) ∙ sym is ∙ z), λ h. is ∙ carrying-refuses e q h)
