@@ -23,5 +23,11 @@ pub mod Widths
 pub mod Meets
 -- carrying: the model is the definition
 pub mod Carries
+-- the workings as functions that compute
+pub mod Model
+-- the members of a meet and of what is carried; back and forth between two runs
+pub mod Laws
 -- the tests on which a working refuses, and that it refuses just there
 pub mod Refusals
+-- the definitions at runs that no search could go through
+pub mod Examples

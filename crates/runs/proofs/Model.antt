@@ -1,0 +1,137 @@
+-- The model: the same steps as the code, as functions that compute. `meetModel` and `carryModel` are the definitions'
+-- `meet` and `carry` at runs in their one form, however long; so a meet of two thousand million numbers is worked out.
+use mathlib.Core.Path.{_≡_, refl, sym, subst}
+use mathlib.Core.Bool.{Bool, true, false, cond}
+use mathlib.Core.List.{[], _∷_}
+use Prim.Native.Nat.{ℕ, zero, suc, _/_, _%_, _≤_, _<_}
+use native.Mathlib.Nat.{mod-lt, zero-lt-suc}
+use lib.Dec.{eqb}
+use borrow.Author.Tests.{eqb-true, eqb-false}
+use Rattle.ints.specs.Within.{Within}
+use Rattle.ints.specs.Floor.{floorDiv, floorMod, ceilDiv}
+use Rattle.ints.proofs.{ℤ, pos, negsuc, negℤ, natAbs, _-ℤ_, _*ℤ_, _≤ℤ_, _<ℤ_, ltZ, arith, lin, lin₀, facts}
+use Rattle.ints.proofs.Order.{nat-nonneg, abs-nonneg}
+use Rattle.runs.specs.declared.congruence.Solutions.{Solutions}
+use Rattle.runs.specs.declared.congruence.Solutions.the-variants.{Nothing, Every}
+use Rattle.runs.specs.Run.{Run, OneForm, empty}
+use Rattle.runs.specs.Search.{meet, carry}
+use Rattle.runs.specs.Workings.{Equation, InLimits}
+use Rattle.runs.specs.Method.{IsFactor, Congruence, InReach, Solves, placesIn, meetBy, placesWithPartner, carryBy, upright}
+use Rattle.runs.proofs.Euclid.{Inv, start, step, done, turned}
+use Rattle.runs.proofs.Solving.{nothing, no-rest, every}
+use Rattle.runs.proofs.Meets.{IsMeet, is-meet, met, empty-left, empty-right, places-in-reach}
+use Rattle.runs.proofs.Carries.{IsCarry, is-carry, carried, empty-carried, places-reach, upright-limits, upright-above, upright-carry}
+
+-- ---- the greatest common divisor with a cofactor
+pub record Factors : Type 0 where
+  pub gcd : ℤ
+  pub cofactor : ℤ
+
+-- the loop; r1 turns are enough
+unfoldable pub remainders : ℕ → ℕ → ℕ → ℤ → ℤ → Factors
+remainders zero r0 r1 s0 s1 = record { gcd = pos r0; cofactor = s0 }
+remainders (suc turns) r0 zero s0 s1 = record { gcd = pos r0; cofactor = s0 }
+remainders (suc turns) r0 (suc r1) s0 s1 = remainders turns (suc r1) (r0 % suc r1) s1 (s0 -ℤ pos (r0 / suc r1) *ℤ s1)
+
+module _ {a b : ℤ} (above : pos 0 <ℤ b) where
+  remainders-are : (turns r0 r1 : ℕ) (s0 s1 : ℤ) → r1 ≤ turns → Inv a b (pos r0) (pos r1) s0 s1 →
+      IsFactor a b (remainders turns r0 r1 s0 s1 .gcd) (remainders turns r0 r1 s0 s1 .cofactor)
+  unfolding remainders
+  remainders-are zero r0 r1 s0 s1 h i = done i above (lin (pos r1 ∷ []) h (search facts depth 20) (omega arith))
+  remainders-are (suc turns) r0 zero s0 s1 h i = done i above (nat-nonneg 0)
+  remainders-are (suc turns) r0 (suc r1) s0 s1 h i =
+      remainders-are turns (suc r1) (r0 % suc r1) s1 (s0 -ℤ pos (r0 / suc r1) *ℤ s1) (omega (arith, mod-lt r0 (zero-lt-suc r1)))
+      (step i (lin (pos (suc r1) ∷ []) (zero-lt-suc r1) (search facts depth 20) (omega arith)))
+
+-- of either sign
+unfoldable pub factors : ℤ → ℕ → Factors
+unfolding remainders
+factors (pos a) b = remainders b a b (pos 1) (pos 0)
+factors (negsuc a) b = let f = remainders b (suc a) b (pos 1) (pos 0) in record { gcd = f .gcd; cofactor = pos 0 -ℤ f .cofactor }
+
+opposite : (x : ℤ) → pos 0 -ℤ x ≡ negℤ x
+opposite x = lin₀ (x ∷ []) (search facts depth 20) (omega arith)
+
+factors-are : (a : ℤ) (b : ℕ) → Within 1000000000000000000 a → pos 0 <ℤ pos b → pos b ≤ℤ pos 2000000000 → IsFactor a (pos b) (factors a b .gcd) (factors a b .cofactor)
+unfolding factors
+factors-are (pos a) b w above most = remainders-are above b a b (pos 1) (pos 0) (omega arith) (start (pos a) (pos b) (nat-nonneg a) w above most)
+factors-are (negsuc a) b w above most =
+    let size : Within 1000000000000000000 (pos (suc a)) = record { size = w .size } in
+    let f : IsFactor (pos (suc a)) (pos b) (remainders b (suc a) b (pos 1) (pos 0) .gcd) (remainders b (suc a) b (pos 1) (pos 0) .cofactor) =
+    remainders-are above b (suc a) b (pos 1) (pos 0) (omega arith) (start (pos (suc a)) (pos b) (nat-nonneg (suc a)) size above most) in
+    turned (subst (λ n. IsFactor n (pos b) (remainders b (suc a) b (pos 1) (pos 0) .gcd) (remainders b (suc a) b (pos 1) (pos 0) .cofactor)) (sym (opposite (negsuc a))) f)
+
+-- ---- u·i ≡ v (mod d)
+unfoldable pub solved : Congruence → Solutions
+unfolding factors
+solved s =
+    let f = factors (s .u) (natAbs (s .d)) in
+    let period = floorDiv (s .d) (f .gcd) in
+    cond (ltZ (pos 0) (floorMod (s .v) (f .gcd))) Nothing
+    (Every record { first = floorMod (floorMod (f .cofactor) period *ℤ floorMod (floorDiv (s .v) (f .gcd)) period) period; step = period })
+
+solved-is : (s : Congruence) → InReach s → Solves s (solved s)
+unfolding solved
+solved-is s h = go (ltZ (pos 0) (floorMod (s .v) (f .gcd))) refl
+  where
+    f : Factors
+    f = factors (s .u) (natAbs (s .d))
+
+    size : s .d ≡ pos (natAbs (s .d))
+    size = abs-nonneg (s .d) (lin (s .d ∷ []) (h .above) (search facts depth 20) (omega arith))
+
+    is : IsFactor (s .u) (s .d) (f .gcd) (f .cofactor)
+    is = subst (λ d. IsFactor (s .u) d (f .gcd) (f .cofactor)) (sym size) (factors-are (s .u) (natAbs (s .d)) (h .factor) (subst (λ d. pos 0 <ℤ d) size (h .above)) (subst (λ d. d ≤ℤ pos 2000000000) size (h .modulus)))
+
+    go : (t : Bool) → ltZ (pos 0) (floorMod (s .v) (f .gcd)) ≡ t → Solves s (cond t Nothing (Every record { first = floorMod (floorMod (f .cofactor) (floorDiv (s .d) (f .gcd)) *ℤ floorMod (floorDiv (s .v) (f .gcd)) (floorDiv (s .d) (f .gcd))) (floorDiv (s .d) (f .gcd)); step = floorDiv (s .d) (f .gcd) }))
+    go true t = nothing is (h .above) (s .v) (lin (floorMod (s .v) (f .gcd) ∷ []) t (search facts depth 20) (omega arith))
+    go false t = every is (h .above) (s .v) (no-rest is (h .above) (s .v) (lin (floorMod (s .v) (f .gcd) ∷ []) t (search facts depth 20) (omega arith)))
+
+-- ---- the workings
+unfoldable pub meetModel : Run → Run → Run
+unfolding solved floorDiv floorMod
+meetModel a b = cond (eqb (a .many) 0) empty (cond (eqb (b .many) 0) empty (meetBy (solved (placesIn a b)) a b))
+
+unfoldable pub carryModel : Equation → Run → Run
+unfolding solved floorDiv floorMod ceilDiv
+carryModel e q = cond (eqb (q .many) 0) empty (carryBy (solved (placesWithPartner (upright e) q)) (upright e) q)
+
+some : {n : ℕ} → eqb n 0 ≡ false → 1 ≤ n
+some {n} t = let z : n ≡ 0 → ⊥ = eqb-false n 0 t in omega arith
+
+-- they have the numbers that are searched for
+meets : {a b : Run} → OneForm a → OneForm b → IsMeet a b (meetModel a b)
+unfolding meetModel
+meets {a} {b} o o′ = left (eqb (a .many) 0) refl
+  where
+    right : 1 ≤ a .many → (t : Bool) → eqb (b .many) 0 ≡ t → IsMeet a b (cond t empty (meetBy (solved (placesIn a b)) a b))
+    right h true t = empty-right a (eqb-true (b .many) 0 t)
+    right h false t = met o o′ h (some t) (solved (placesIn a b)) (solved-is (placesIn a b) (places-in-reach o o′ h (some t)))
+
+    left : (t : Bool) → eqb (a .many) 0 ≡ t → IsMeet a b (cond t empty (cond (eqb (b .many) 0) empty (meetBy (solved (placesIn a b)) a b)))
+    left true t = empty-left b (eqb-true (a .many) 0 t)
+    left false t = right (some t) (eqb (b .many) 0) refl
+
+carries : {e : Equation} {q : Run} → InLimits e → OneForm q → IsCarry (e .a) (e .b) (e .c) q (carryModel e q)
+unfolding carryModel
+carries {e} {q} lim o = go (eqb (q .many) 0) refl
+  where
+    go : (t : Bool) → eqb (q .many) 0 ≡ t → IsCarry (e .a) (e .b) (e .c) q (cond t empty (carryBy (solved (placesWithPartner (upright e) q)) (upright e) q))
+    go true t = empty-carried (e .a) (e .b) (e .c) (eqb-true (q .many) 0 t)
+    go false t =
+        upright-carry e (carried (upright-limits lim) (upright-above lim) o (some t) (solved (placesWithPartner (upright e) q))
+        (solved-is (placesWithPartner (upright e) q) (places-reach (upright-limits lim) (upright-above lim) o (some t))))
+
+-- so they are the definitions
+pub meet-model : {a b : Run} → OneForm a → OneForm b → meetModel a b ≡ meet a b
+meet-model o o′ = is-meet o (meets o o′)
+
+pub carry-model : {e : Equation} {q : Run} → InLimits e → OneForm q → carryModel e q ≡ carry (e .a) (e .b) (e .c) q
+carry-model lim o = is-carry (carries lim o)
+
+-- and the definitions have the numbers that they search for
+pub is-met : {a b : Run} → OneForm a → OneForm b → IsMeet a b (meet a b)
+is-met {a} {b} o o′ = subst (IsMeet a b) (meet-model o o′) (meets o o′)
+
+pub is-carried : {e : Equation} {q : Run} → InLimits e → OneForm q → IsCarry (e .a) (e .b) (e .c) q (carry (e .a) (e .b) (e .c) q)
+is-carried {e} {q} lim o = subst (IsCarry (e .a) (e .b) (e .c) q) (carry-model lim o) (carries lim o)
