@@ -27,6 +27,12 @@ pub mod Carries
 pub mod Model
 -- the members of a meet and of what is carried; back and forth between two runs
 pub mod Laws
+-- a run whose step may have either sign, and the same run downwards
+pub mod Turns
+-- where the numbers of one run stand in another: exact quotients
+pub mod Indices
+-- an equation between the runs of two families: what the family proof will ask
+pub mod Joins
 -- the tests on which a working refuses, and that it refuses just there
 pub mod Refusals
 -- the definitions at runs that no search could go through

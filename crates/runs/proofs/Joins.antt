@@ -1,0 +1,52 @@
+-- An equation a·p + b·q = c between the runs of two families (DESIGN, "Between two groups"): the p that some q completes,
+-- and where they and their partners stand in the two families, upwards and downwards.
+use mathlib.Core.Logic.{_↔_, Iff·trans}
+use Prim.Native.Nat.{_≤_}
+use Rattle.ints.proofs.{ℤ, pos, negℤ, _+ℤ_, _-ℤ_, _*ℤ_}
+use Rattle.runs.specs.Run.{Run, InRun, OneForm}
+use Rattle.runs.specs.Search.{meet, Partner, carry}
+use Rattle.runs.specs.Workings.{Equation, InLimits}
+use Rattle.runs.proofs.Laws.{joined-form, in-joined}
+use Rattle.runs.proofs.Turns.{FamilyRun, turned, upward, in-upward, upward-form, one-form-moves}
+use Rattle.runs.proofs.Indices.{indexOf, strideIn, Indexed, indexed, turned-indexed, across, Across, is-across, partner-indexed}
+
+module _ {e : Equation} (lim : InLimits e) {P Q : Run} (f : FamilyRun P) (g : FamilyRun Q) where
+  -- the p that are joined, upwards
+  abbrev R : Run
+  R = meet (upward P) (carry (e .a) (e .b) (e .c) (upward Q))
+
+  pub join-form : OneForm R
+  join-form = joined-form lim (upward-form f) (upward-form g)
+
+  upward-partner : (p : ℤ) → Partner (e .a) (e .b) (e .c) (upward Q) p ↔ Partner (e .a) (e .b) (e .c) Q p
+  upward-partner p = (
+    λ k. record { q = k .q; member = in-upward Q (k .q) .1 (k .member); holds = k .holds },
+    λ k. record { q = k .q; member = in-upward Q (k .q) .0 (k .member); holds = k .holds },
+  )
+
+  pub in-join : (p : ℤ) → InRun R p ↔ (InRun P p × Partner (e .a) (e .b) (e .c) Q p)
+  in-join p = Iff·trans (in-joined lim (upward-form f) (upward-form g) p) (
+    λ k. (in-upward P p .1 (k .0), upward-partner p .0 (k .1)),
+    λ k. (in-upward P p .0 (k .0), upward-partner p .1 (k .1)),
+  )
+
+  -- ---- where there is one, its first number and its step are exact quotients in P, and their partners in Q
+  module _ (some : 1 ≤ R .many) where
+    abbrev S : Run
+    S = across (e .a) (e .b) (e .c) R
+
+    pub join-partners : Across (e .a) (e .b) (e .c) R S
+    join-partners = is-across (lim .right-not-zero) (one-form-moves join-form) some (λ p h. in-join p .0 h .1)
+
+    pub left : Indexed P R (indexOf P (R .first)) (strideIn P (R .step))
+    left = indexed (f .moves) (one-form-moves join-form) some (λ p h. in-join p .0 h .0)
+
+    pub right : Indexed Q S (indexOf Q (S .first)) (strideIn Q (S .step))
+    right = partner-indexed (g .moves) (one-form-moves join-form) (lim .left-not-zero) (lim .right-not-zero) some (λ p h. in-join p .0 h .1)
+
+    -- downwards
+    pub left-down : Indexed P (turned R) (indexOf P (R .first) +ℤ strideIn P (R .step) *ℤ (pos (R .many) -ℤ pos 1)) (negℤ (strideIn P (R .step)))
+    left-down = turned-indexed left
+
+    pub right-down : Indexed Q (turned S) (indexOf Q (S .first) +ℤ strideIn Q (S .step) *ℤ (pos (R .many) -ℤ pos 1)) (negℤ (strideIn Q (S .step)))
+    right-down = turned-indexed right
