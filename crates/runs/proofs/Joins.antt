@@ -1,4 +1,4 @@
--- An equation a·p + b·q = c between the runs of two families (DESIGN, "Between two groups"): the p that some q completes,
+-- An equation a·p + b·q = c between the runs of two families: the p that some q completes,
 -- and where they and their partners stand in the two families, upwards and downwards.
 use mathlib.Core.Logic.{_↔_, Iff·trans}
 use Prim.Native.Nat.{_≤_}
