@@ -19,7 +19,7 @@ pub struct Interval {
 
 impl Interval {
     /// The numbers in both.
-    pub fn common(self, other: Interval) -> Interval
+    pub(crate) fn common(self, other: Interval) -> Interval
         ensures { λ r. ⌜ r ≡ common self other ⌝ }
     {
         Interval {
@@ -43,7 +43,7 @@ fn smaller(x: i64, y: i64) -> i64
 
 impl Class {
     /// The run of the members in an interval.
-    pub fn clip(self, to: Interval) -> Run
+    pub(crate) fn clip(self, to: Interval) -> Run
         requires { ⌜ Clippable self to ⌝ }
         ensures { λ r. ⌜ r ≡ clip self to ⌝ }
     {

@@ -19,7 +19,7 @@ pub enum Solutions {
 }
 
 impl Congruence {
-    pub fn solve(self) -> Solutions
+    pub(crate) fn solve(self) -> Solutions
         requires { ⌜ InReach self ⌝ }
         ensures { λ r. ⌜ Solves self r ⌝ }
     {

@@ -12,7 +12,7 @@ pub struct Factor {
 }
 
 impl Factor {
-    pub fn of(a: i64, b: i64) -> Factor
+    pub(crate) fn of(a: i64, b: i64) -> Factor
         requires { ⌜ Within 1000000000000000000 a ⌝ }
         requires { ⌜ pos 0 <ℤ b ⌝ }
         requires { ⌜ b ≤ℤ pos 2000000000 ⌝ }

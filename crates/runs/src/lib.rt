@@ -98,7 +98,7 @@ impl Run {
         }
     }
 
-    /// The numbers in both: the intersection.
+    /// The numbers in both: the intersection. For runs that are known to be in their one form; `meeting` takes any.
     pub fn meet(self, other: Run) -> Run
         requires { ⌜ OneForm self ⌝ }
         requires { ⌜ OneForm other ⌝ }
@@ -117,7 +117,8 @@ impl Run {
         }
     }
 
-    /// All p within ±1,000,000,000 that have a partner in this run of q: the image under the equation.
+    /// All p within ±1,000,000,000 that have a partner in this run of q: the image under the equation. For arguments that
+    /// are known to be within their limits; `carrying` takes any.
     pub fn carry(self, e: Equation) -> Run
         requires { ⌜ OneForm self ⌝ }
         requires { ⌜ InLimits e ⌝ }

@@ -11,7 +11,7 @@ use runs::Equation;
 use runs::Run;
 
 /// The run of all answers.
-pub fn result(task: Task, run: Run) -> Run
+pub(crate) fn result(task: Task, run: Run) -> Run
     requires { ⌜ SmallTask task ⌝ }
     requires { ⌜ SmallRun run ⌝ }
 {
@@ -141,7 +141,7 @@ fn holds(e: Equation, p: i64, q: i64) -> bool
 }
 
 /// The number of r at place k.
-pub fn nth(r: Run, k: u32) -> i64
+pub(crate) fn nth(r: Run, k: u32) -> i64
     requires { ⌜ SmallRun r ⌝ }
     requires { ⌜ k ≤ 13 ⌝ }
     ensures { λ x. ⌜ Within 162 x ⌝ }
@@ -150,7 +150,7 @@ pub fn nth(r: Run, k: u32) -> i64
 }
 
 /// From 0..=2·most to -most..=most.
-pub fn centred(x: u64, most: u64) -> i64
+pub(crate) fn centred(x: u64, most: u64) -> i64
     requires { ⌜ most ≤ 33 ⌝ }
     requires { ⌜ x ≤ 2 * most ⌝ }
     ensures { λ r. ⌜ Within most r ⌝ }
