@@ -35,5 +35,5 @@ pub mod Indices
 pub mod Joins
 -- the tests on which a working refuses, and that it refuses just there
 pub mod Refusals
--- the definitions at runs that no search could go through
+-- document 01's jobs with one equation, through the definitions
 pub mod Examples

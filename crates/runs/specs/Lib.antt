@@ -8,5 +8,5 @@ pub mod Search
 pub mod Workings
 -- the method: residue classes, a congruence, the greatest common divisor (what inner functions promise)
 pub mod Method
--- the definitions at worked values
+-- the definitions and the method at worked values
 pub mod Values

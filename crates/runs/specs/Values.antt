@@ -6,7 +6,9 @@ use lib.IntN.{pos, negsuc}
 use Rattle.lists.specs.Keep.{every}
 use Rattle.runs.specs.Run.{Run, numbers, isOneForm, empty}
 use Rattle.runs.specs.Search.{runOf, meet, hasPartner}
+use Rattle.ints.specs.Floor.{floorDiv, floorMod, ceilDiv}
 use Rattle.runs.specs.Workings.{meeting, run, refused}
+use Rattle.runs.specs.Method.{clip, between, image, placesIn}
 
 -- −3, 1, 5
 abbrev three : Run
@@ -49,3 +51,26 @@ formed = (refl, refl, refl)
 answered : (meeting three odd ≡ run record { first = pos 1; step = pos 4; many = 2 }) × (meeting three (record { first = pos 5; step = pos 0; many = 2 }) ≡ refused 9 0)
 unfolding meet every numbers
 answered = (refl, refl)
+
+-- ---- the method, where document 01's wrong plans would go another way
+-- of the multiples of 5 none lies from 2 to 3, and from 2 to 11 there are 5 and 10; one alone has step 0
+clipped : (clip (record { first = pos 0; step = pos 5 }) (record { low = pos 2; high = pos 3 }) ≡ empty) ×
+    (clip (record { first = pos 0; step = pos 5 }) (record { low = pos 2; high = pos 11 }) ≡ record { first = pos 5; step = pos 5; many = 2 }) ×
+    (clip (record { first = pos 0; step = pos 5 }) (record { low = pos 2; high = pos 9 }) ≡ record { first = pos 5; step = pos 0; many = 1 })
+unfolding floorDiv floorMod
+clipped = (refl, refl, refl)
+
+-- 2·p + q = 0: q = −7 would have p at 3½, and q = 7 at −3½; rounded up and down that is 4 and −4
+rounded : between (record { a = pos 2; b = pos 1; c = pos 0 }) (negsuc 6) (pos 7) ≡ record { low = pos 4; high = negsuc 3 }
+unfolding floorDiv ceilDiv
+rounded = refl
+
+-- p + q = 0 turns 1..3 to −3..−1, and p − q = 0 leaves it
+turned : (image (record { a = pos 1; b = pos 1; c = pos 0 }) (record { low = pos 1; high = pos 3 }) ≡ record { low = negsuc 2; high = negsuc 0 }) ×
+    (image (record { a = pos 1; b = negsuc 0; c = pos 0 }) (record { low = pos 1; high = pos 3 }) ≡ record { low = pos 1; high = pos 3 })
+unfolding floorDiv ceilDiv
+turned = (refl, refl)
+
+-- the numbers −3 + 4·i that are 1 modulo 2: 4·i ≡ 4 (mod 2)
+placed : placesIn three odd ≡ record { u = pos 4; v = pos 4; d = pos 2 }
+placed = refl
