@@ -1,65 +1,53 @@
 -- Document 01's jobs with an equation between two counts, through the definitions. No search could go through the full
 -- range; the model works it out.
 use mathlib.Core.Path.{_≡_, refl, sym, _∙_, ap}
-use Rattle.ints.proofs.{pos, negsuc}
+use mathlib.Core.Bool.{true}
+use Prim.Native.Nat.{ℕ}
+use Rattle.ints.proofs.{ℤ, pos, negsuc}
 use Rattle.lists.specs.Keep.{every}
-use Rattle.runs.specs.Run.{Run, OneForm, numbers, empty, full}
+use Rattle.runs.specs.Run.{Run, OneForm, numbers, isOneForm, empty, full}
 use Rattle.runs.specs.Search.{meet, carry}
-use Rattle.runs.specs.Workings.{Equation, InLimits}
+use Rattle.runs.specs.Workings.{Equation, inLimits}
 use Rattle.runs.proofs.Clips.{full-form}
 use Rattle.runs.proofs.Model.{meetModel, carryModel, meet-model, carry-model}
 use Rattle.runs.proofs.Laws.{carry-form}
 use Rattle.runs.proofs.Refusals.{one-form-iff, in-limits-iff}
 
--- the first count's numbers that the second completes, as the model has them
-joined-model : {e : Equation} {P Q : Run} → InLimits e → OneForm P → OneForm Q → meetModel P (carryModel e Q) ≡ meet P (carry (e .a) (e .b) (e .c) Q)
-joined-model {e} {P} {Q} lim o o′ = ap (meetModel P) (carry-model lim o′) ∙ meet-model o (carry-form lim o′)
+abbrev tie : ℤ → ℤ → ℤ → Equation
+tie a b c = record { a = a; b = b; c = c }
 
--- 2·c0 + 4·c1 = 7, both 0..9: no fit
-abbrev ten : Run
-ten = record { first = pos 0; step = pos 1; many = 10 }
+-- n numbers from low on
+abbrev bounds : ℤ → ℕ → Run
+bounds low n = record { first = low; step = pos 1; many = n }
 
-abbrev even : Equation
-even = record { a = pos 2; b = pos 4; c = pos 7 }
+-- the numbers of the first count that the second completes are those of r, if the model says so
+module _ (a b c : ℤ) (P Q r : Run) (lawful : inLimits (tie a b c) ≡ true) where
+  by-model : OneForm P → OneForm Q → meetModel P (carryModel (tie a b c) Q) ≡ r → meet P (carry a b c Q) ≡ r
+  by-model o o′ e =
+      let lim = in-limits-iff (tie a b c) .0 lawful in
+      sym (meet-model o (carry-form lim o′)) ∙ ap (meetModel P) (sym (carry-model lim o′)) ∙ e
 
-even-none : meet ten (carry (pos 2) (pos 4) (pos 7) ten) ≡ empty
+  joined : isOneForm P ≡ true → isOneForm Q ≡ true → meetModel P (carryModel (tie a b c) Q) ≡ r → meet P (carry a b c Q) ≡ r
+  joined p q e = by-model (one-form-iff P .0 p) (one-form-iff Q .0 q) e
+
+-- in turn 2·c0 + 4·c1 = 7, both 0..9: no fit; 3·c0 − 5·c1 = 0, c0 1..4, c1 0..9: no fit, although there is room between the
+-- translated bounds; c0 + 2·c1 = 0, c0 −5..5, c1 −3..3: c0 has base −4, step 2 and 5 fits
+pub small-jobs : (meet (bounds (pos 0) 10) (carry (pos 2) (pos 4) (pos 7) (bounds (pos 0) 10)) ≡ empty) ×
+    (meet (bounds (pos 1) 4) (carry (pos 3) (negsuc 4) (pos 0) (bounds (pos 0) 10)) ≡ empty) ×
+    (meet (bounds (negsuc 4) 11) (carry (pos 1) (pos 2) (pos 0) (bounds (negsuc 2) 7)) ≡ record { first = negsuc 3; step = pos 2; many = 5 })
 unfolding every numbers meetModel carryModel
-even-none = sym (joined-model {e = even} (in-limits-iff even .0 refl) (one-form-iff ten .0 refl) (one-form-iff ten .0 refl)) ∙ refl
-
--- 3·c0 − 5·c1 = 0, c0 1..4, c1 0..9: no fit, although there is room between the translated bounds
-abbrev four : Run
-four = record { first = pos 1; step = pos 1; many = 4 }
-
-abbrev fifths : Equation
-fifths = record { a = pos 3; b = negsuc 4; c = pos 0 }
-
-fifths-none : meet four (carry (pos 3) (negsuc 4) (pos 0) ten) ≡ empty
-unfolding every numbers meetModel carryModel
-fifths-none = sym (joined-model {e = fifths} (in-limits-iff fifths .0 refl) (one-form-iff four .0 refl) (one-form-iff ten .0 refl)) ∙ refl
-
--- c0 + 2·c1 = 0, c0 −5..5, c1 −3..3: c0 has base −4, step 2 and 5 fits
-abbrev eleven : Run
-eleven = record { first = negsuc 4; step = pos 1; many = 11 }
-
-abbrev seven : Run
-seven = record { first = negsuc 2; step = pos 1; many = 7 }
-
-abbrev halves : Equation
-halves = record { a = pos 1; b = pos 2; c = pos 0 }
-
-halves-five : meet eleven (carry (pos 1) (pos 2) (pos 0) seven) ≡ record { first = negsuc 3; step = pos 2; many = 5 }
-unfolding every numbers meetModel carryModel
-halves-five = sym (joined-model {e = halves} (in-limits-iff halves .0 refl) (one-form-iff eleven .0 refl) (one-form-iff seven .0 refl)) ∙ refl
+small-jobs = (
+  joined (pos 2) (pos 4) (pos 7) (bounds (pos 0) 10) (bounds (pos 0) 10) empty refl refl refl refl,
+  joined (pos 3) (negsuc 4) (pos 0) (bounds (pos 1) 4) (bounds (pos 0) 10) empty refl refl refl refl,
+  joined (pos 1) (pos 2) (pos 0) (bounds (negsuc 4) 11) (bounds (negsuc 2) 7) (record { first = negsuc 3; step = pos 2; many = 5 }) refl refl refl refl,
+)
 
 -- 1,000,000·c0 − 999,999·c1 = 1 over the full range: c0 has base −999,998,999, step 999,999 and 2,000 fits
-abbrev wide : Equation
-wide = record { a = pos 1000000; b = negsuc 999998; c = pos 1 }
-
-wide-many : meet full (carry (pos 1000000) (negsuc 999998) (pos 1) full) ≡ record { first = negsuc 999998998; step = pos 999999; many = 2000 }
+pub full-job : meet full (carry (pos 1000000) (negsuc 999998) (pos 1) full) ≡ record { first = negsuc 999998998; step = pos 999999; many = 2000 }
 unfolding meetModel carryModel
-wide-many = sym (joined-model {e = wide} (in-limits-iff wide .0 refl) full-form full-form) ∙ refl
+full-job = by-model (pos 1000000) (negsuc 999998) (pos 1) full full (record { first = negsuc 999998998; step = pos 999999; many = 2000 }) refl full-form full-form refl
 
 -- the full range met with itself
-full-met : meet full full ≡ full
+pub full-met : meet full full ≡ full
 unfolding meetModel
 full-met = sym (meet-model full-form full-form) ∙ refl
