@@ -1,11 +1,11 @@
 -- The first best of a rising list is the best: it is a member, beats every other, and no other member does.
-use mathlib.Core.Path.{_≡_, refl, sym, ap}
+use mathlib.Core.Path.{_≡_, refl, sym, _∙_, ap}
 use mathlib.Core.Logic.{_⊎_, inl, inr}
 use mathlib.Core.Bool.{Bool, true, false, cond}
 use mathlib.Core.List.{List·Memᴰ·not-nil}
 use lib.Signed.{<ℤ-≤ℤ-trans}
 use Rattle.ints.proofs.{ℤ, _≤ℤ_, _<ℤ_, ltZ, List, [], _∷_, arith, facts, lin, le-or-lt}
-use Rattle.ints.proofs.Order.{lt-asym, lt-ne, lt-true, lt-false, le-antisym, le-lt-trans}
+use Rattle.ints.proofs.Order.{lt-asym, lt-ne, lt-trans, lt-true, lt-false, le-antisym, le-lt-trans}
 use Rattle.lists.specs.Members.{_∈_, here, there}
 use Rattle.lists.specs.Rising.{Rising, more}
 use Rattle.lists.specs.Best.{Beats, greater, earlier, Best, firstBest, bestOf}
@@ -66,6 +66,30 @@ module _ {A : Type 0} (value : A → ℤ) {R : A → A → Type 0} where
         choose (ltZ (value b) (value x)) refl (g x (here refl))
         (first-best x xs (more h r))
         (first-best b xs (more (λ y k. g y (there k)) r))
+
+    -- so what `bestOf` finds of a list with a member is the best of it
+    pub bestOf-best : (d : A) {xs : List A} {x : A} → Rising R xs → x ∈ xs → Best value R xs (bestOf value d xs)
+    unfolding bestOf
+    bestOf-best d {xs = []} r h = absurd (List·Memᴰ·not-nil h)
+    bestOf-best d {xs = y ∷ ys} r h = first-best y ys r
+
+    -- ---- `Beats` is a strict total order where R is one
+    pub beats-trans : {x y z : A} → Beats value R x y → Beats value R y z → Beats value R x z
+    beats-trans {x} {y} {z} (greater h) (greater k) = greater (lt-trans (value z) (value y) (value x) k h)
+    beats-trans {x} {y} {z} (greater h) (earlier e k) = greater (rw e at h)
+    beats-trans {x} {y} {z} (earlier e h) (greater k) = greater (rw (sym e) at k)
+    beats-trans {x} {y} {z} (earlier e h) (earlier e′ k) = earlier (e ∙ e′) (trans x y z h k)
+
+  pub beats-compared : {x y : A} → (x ≡ y) ⊎ (R x y ⊎ R y x) → (x ≡ y) ⊎ (Beats value R x y ⊎ Beats value R y x)
+  beats-compared {x} {y} c = go (le-or-lt (value y) (value x)) (le-or-lt (value x) (value y)) c
+    where
+      go : (value y ≤ℤ value x) ⊎ (value x <ℤ value y) → (value x ≤ℤ value y) ⊎ (value y <ℤ value x) → (x ≡ y) ⊎ (R x y ⊎ R y x) →
+          (x ≡ y) ⊎ (Beats value R x y ⊎ Beats value R y x)
+      go (inr h) k c = inr (inr (greater h))
+      go (inl h) (inr k) c = inr (inl (greater k))
+      go (inl h) (inl k) (inl e) = inl e
+      go (inl h) (inl k) (inr (inl r)) = inr (inl (earlier (le-antisym (value x) (value y) k h) r))
+      go (inl h) (inl k) (inr (inr r)) = inr (inr (earlier (le-antisym (value y) (value x) h k) r))
 
   -- there is only one
   module _ (asym : (x y : A) → R x y → R y x → ⊥) where

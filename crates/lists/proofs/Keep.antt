@@ -1,11 +1,18 @@
--- The members of a kept list, and that it rises with the list; what the tests of all members and of any say.
+-- The members of a kept list, that it rises with the list, and how long it is where those below a member are kept; what the
+-- tests of all members and of any say.
 use mathlib.Core.Path.{_≡_, refl, sym, _∙_, ap}
 use mathlib.Core.Logic.{_↔_, _⊎_, inl, inr, ⊎-elim}
 use mathlib.Core.Bool.{Bool, true, false, cond, _||_, false≢true, and-eq-true-iff}
 use mathlib.Core.List.{List, [], _∷_}
+use Prim.Native.Nat.{ℕ, zero, suc, _<_}
+use native.Mathlib.Omega.{arith}
+use lib.Dec.{ltb}
+use lib.ListN.{length, getD}
+use borrow.Author.Tests.{lt-ltb, le-ltb}
 use Rattle.lists.specs.Members.{_∈_, here, there}
 use Rattle.lists.specs.Rising.{Rising, none, more}
 use Rattle.lists.specs.Keep.{keep, every, any}
+use Rattle.lists.proofs.Members.{member-at, place-of}
 
 module _ {A : Type 0} (p : A → Bool) where
   -- ---- keep: one member more, which passes or does not
@@ -43,6 +50,11 @@ module _ {A : Type 0} (p : A → Bool) where
   rising-keep none = none
   rising-keep (more {x} {xs} f r) = cond-rising (p x) x (λ y h. f y (keep-out xs h .0)) (rising-keep r)
 
+  pub keep-none : (xs : List A) → ((z : A) → z ∈ xs → p z ≡ false) → keep p xs ≡ []
+  unfolding keep
+  keep-none [] f = refl
+  keep-none (x ∷ xs) f = rw (f x (here refl)) (keep-none xs (λ z h. f z (there h)))
+
   -- ---- every
   every-out : {xs : List A} {z : A} → every p xs ≡ true → z ∈ xs → p z ≡ true
   unfolding every
@@ -56,6 +68,13 @@ module _ {A : Type 0} (p : A → Bool) where
 
   pub every-iff : (xs : List A) → (every p xs ≡ true) ↔ ((z : A) → z ∈ xs → p z ≡ true)
   every-iff xs = (λ t z h. every-out t h, every-into xs)
+
+  -- the same by places
+  pub every-at : (xs : List A) (d : A) → (every p xs ≡ true) ↔ ((k : ℕ) → k < length xs → p (getD xs k d) ≡ true)
+  every-at xs d = (
+    λ t k h. every-out t (member-at xs k d h),
+    λ f. every-into xs (λ z h. let (k, l, e) = place-of xs d h in ap p e ∙ f k l),
+  )
 
   -- ---- any
   or-out : (a b : Bool) → (a || b) ≡ true → (a ≡ true) ⊎ (b ≡ true)
@@ -78,3 +97,12 @@ module _ {A : Type 0} (p : A → Bool) where
 
   pub any-iff : (xs : List A) → (any p xs ≡ true) ↔ ((z : A) × (z ∈ xs) × (p z ≡ true))
   any-iff xs = (any-out xs, λ h. any-into (h .1) (h .2))
+
+-- in a rising list of naturals, as many members are lower than a member as stand before it
+pub rank-at : {xs : List ℕ} → Rising _<_ xs → (k : ℕ) → k < length xs → length (keep (λ x. ltb x (getD xs k 0)) xs) ≡ k
+unfolding keep
+rank-at none k h = absurd (omega arith)
+rank-at (more {x} {xs} f r) zero h =
+    rw (le-ltb x x (omega arith)) (ap length (keep-none (λ y. ltb y x) xs (λ y k. le-ltb y x (omega (arith, f y k)))))
+rank-at (more {x} {xs} f r) (suc k) h =
+    rw (lt-ltb x (getD xs k 0) (f (getD xs k 0) (member-at xs k 0 (omega arith)))) (ap suc (rank-at r k (omega arith)))

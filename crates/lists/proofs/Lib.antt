@@ -1,5 +1,9 @@
 -- The laws of the definitions in specs/: a file for each, in the same order.
 
+-- members by their places, and of ++, map and flatMap
+pub mod Members
+-- what stands at each place of a list, and of lists one behind the other
+pub mod Places
 -- two rising lists with the same members are equal: every "equals the definition" of later crates goes by this
 pub mod Rising
 pub mod Keep
@@ -10,5 +14,7 @@ pub mod Lexicographic
 pub mod Best
 -- sums, and the same sum label by label
 pub mod Sums
+-- of the kit's `map`: what one computation over a whole table says of each entry
+pub mod Maps
 -- the laws put to use
 pub mod Examples

@@ -1,9 +1,10 @@
--- The one lemma of this crate: two rising lists with the same members are equal.
+-- The one lemma of this crate: two rising lists with the same members are equal. And lists that rise by how they are made.
 use mathlib.Core.Path.{_≡_, refl, sym, _∙_, ap₂}
-use mathlib.Core.Logic.{_↔_}
-use mathlib.Core.List.{List, _∷_, List·Memᴰ·not-nil}
+use mathlib.Core.Logic.{_↔_, ⊎-elim}
+use mathlib.Core.List.{List, _∷_, _++_, map, flatMap, List·Memᴰ·not-nil}
 use Rattle.lists.specs.Members.{_∈_, here, there}
 use Rattle.lists.specs.Rising.{Rising, none, more}
+use Rattle.lists.proofs.Members.{in-append, in-map, in-flatMap}
 
 module _ {A : Type 0} {R : A → A → Type 0} (asym : (x y : A) → R x y → R y x → ⊥) where
   -- the heads of two rising lists with the same members
@@ -26,3 +27,24 @@ module _ {A : Type 0} {R : A → A → Type 0} (asym : (x y : A) → R x y → R
     where
       e : x ≡ y
       e = head f g (m x .0 (here refl)) (m y .1 (here refl))
+
+-- ---- lists made by ++, map and flatMap
+pub rising-append : {A : Type 0} {R : A → A → Type 0} {xs ys : List A} → Rising R xs → Rising R ys →
+    ((x y : A) → x ∈ xs → y ∈ ys → R x y) → Rising R (xs ++ ys)
+rising-append none s m = s
+rising-append {ys} (more {x} {xs} f r) s m =
+    more (λ y h. ⊎-elim (f y) (m x y (here refl)) (in-append xs ys y .0 h)) (rising-append r s (λ z y h. m z y (there h)))
+
+module _ {A B : Type 0} {R : A → A → Type 0} {S : B → B → Type 0} where
+  pub rising-map : (f : A → B) {xs : List A} → ((x y : A) → R x y → S (f x) (f y)) → Rising R xs → Rising S (map f xs)
+  rising-map f m none = none
+  rising-map f m (more {x} {xs} g r) = more {x = f x} (λ y h. let (z, k, e) = in-map f xs y .0 h in rw e (m x z (g z k))) (rising-map f m r)
+
+  -- each part rises, and the part of an earlier member stands before that of a later one
+  pub rising-flatMap : (f : A → List B) {xs : List A} → ((x : A) → Rising S (f x)) →
+      ((x y : A) → R x y → (u v : B) → u ∈ f x → v ∈ f y → S u v) → Rising R xs → Rising S (flatMap f xs)
+  unfolding flatMap
+  rising-flatMap f each across none = none
+  rising-flatMap f each across (more {x} {xs} g r) =
+      rising-append (each x) (rising-flatMap f each across r)
+      (λ u v h k. let (y, l, m) = in-flatMap f xs v .0 k in across x y (g y l) u v h m)

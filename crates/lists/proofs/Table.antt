@@ -1,9 +1,11 @@
--- The members of a table, that it rises where f does, and its length.
-use mathlib.Core.Path.{_≡_, refl, ap}
+-- The members of a table, that it rises where f does, its length, and what stands at each place.
+use mathlib.Core.Path.{_≡_, refl, _∙_, ap}
 use mathlib.Core.Logic.{_↔_}
-use Prim.Native.Nat.{ℕ, zero, suc, _+_, _≤_, _<_}
+use Prim.Native.Nat.{ℕ, zero, suc, _+_, _-_, _≤_, _<_}
+use mathlib.Core.List.{[], _∷_}
+use native.Mathlib.Numerals.{add-one}
 use native.Mathlib.Omega.{arith}
-use lib.ListN.{length}
+use lib.ListN.{length, getD}
 use Rattle.lists.specs.Members.{_∈_, here, there}
 use Rattle.lists.specs.Rising.{Rising, none, more}
 use Rattle.lists.specs.Table.{tableFrom, table}
@@ -35,6 +37,12 @@ module _ {A : Type 0} (f : ℕ → A) where
   from-length i zero = refl
   from-length i (suc n) = ap suc (from-length (suc i) n)
 
+  from-at : (i n k : ℕ) (d : A) → k < n → getD (tableFrom f i n) k d ≡ f (i + k)
+  unfolding tableFrom
+  from-at i zero k d h = absurd (omega arith)
+  from-at i (suc n) zero d h = let e : i ≡ i + 0 = omega arith in ap f e
+  from-at i (suc n) (suc k) d h = let e : suc i + k ≡ i + suc k = omega arith in from-at (suc i) n k d (omega arith) ∙ ap f e
+
   pub in-table : (n : ℕ) (z : A) → z ∈ table f n ↔ ((k : ℕ) × (k < n) × (z ≡ f k))
   unfolding table
   in-table n z = (λ h. let (k, a, b, e) = from-out 0 n h in (k, omega arith, e), into)
@@ -49,3 +57,20 @@ module _ {A : Type 0} (f : ℕ → A) where
   pub length-table : (n : ℕ) → length (table f n) ≡ n
   unfolding table
   length-table n = from-length 0 n
+
+  pub table-at : (n k : ℕ) (d : A) → k < n → getD (table f n) k d ≡ f k
+  unfolding table
+  table-at n k d h = let e : 0 + k ≡ k = omega arith in from-at 0 n k d h ∙ ap f e
+
+  -- a walk through the table: what is left of it at i, before its end and there
+  pub from-next : (i n : ℕ) → i < n → tableFrom f i (n - i) ≡ f i ∷ tableFrom f (i + 1) (n - (i + 1))
+  unfolding tableFrom
+  from-next i n h = let q : n - i ≡ suc (n - (i + 1)) = omega arith in rw (q, add-one)
+
+  pub from-end : (i n : ℕ) → n ≤ i → tableFrom f i (n - i) ≡ []
+  unfolding tableFrom
+  from-end i n h = let q : n - i ≡ 0 = omega arith in rw q
+
+  pub from-start : (n : ℕ) → table f n ≡ tableFrom f 0 (n - 0)
+  unfolding table
+  from-start n = let q : n ≡ n - 0 = omega arith in ap (tableFrom f 0) q

@@ -1,6 +1,7 @@
 -- A test put to the members of a list.
 use mathlib.Core.Bool.{Bool, true, false, cond, _&&_, _||_}
 use mathlib.Core.List.{List, [], _∷_}
+use Prim.Native.Nat.{ℕ, suc}
 
 -- the members that pass, in their order
 unfoldable pub keep : {A : Type 0} → (A → Bool) → List A → List A
@@ -16,3 +17,8 @@ every p (x ∷ xs) = p x && every p xs
 unfoldable pub any : {A : Type 0} → (A → Bool) → List A → Bool
 any p [] = false
 any p (x ∷ xs) = p x || any p xs
+
+-- how many members come before the first that passes; all of them where none does
+unfoldable pub place : {A : Type 0} → (A → Bool) → List A → ℕ
+place p [] = 0
+place p (x ∷ xs) = cond (p x) 0 (suc (place p xs))
