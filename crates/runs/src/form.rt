@@ -47,8 +47,8 @@ impl Run {
 }
 
 impl Equation {
-    // Are a, b and c within their limits?
-    pub(crate) fn in_limits(self) -> bool
+    /// Are a, b and c within their limits?
+    pub fn in_limits(self) -> bool
         ensures { λ r. ⌜ r ≡ inLimits self ⌝ }
     {
         if is_coefficient(self.a) {
