@@ -1,0 +1,5 @@
+-- The laws of jobs, in the order in which they rest on each other. Other crates go by Solutions, Components and Assembly, and
+-- find in Faults when a job is turned away and in Lawful what is known of one that is not.
+
+-- numbers in bytes, as the code reads them
+pub mod Reading
