@@ -3,3 +3,7 @@
 
 -- numbers in bytes, as the code reads them
 pub mod Reading
+-- the solutions of a job, in order, and the best of them
+pub mod Solutions
+-- groups: what joins variables, and how groups are numbered
+pub mod Components

@@ -3,5 +3,13 @@
 
 -- numbers in bytes
 pub mod Bytes
+-- the bytes of a job as variables and equations
+pub mod Job
+-- fit-outs, their worth, and the best of them
+pub mod Solution
+-- groups
+pub mod Component
+-- what is read off the fit-outs of one group
+pub mod Family
 -- what inner functions promise each other
 pub mod Method

@@ -4,3 +4,19 @@
 
 // little-endian numbers
 mod bytes;
+
+/// A variable's row, document 01's count row: its bounds and its weight.
+pub struct Variable {
+    pub low: i64,
+    pub high: i64,
+    pub weight: i64,
+}
+
+/// An equation's row, document 01's tie: a·left + b·right = c, where left and right are numbers of variables.
+pub struct Equation {
+    pub left: usize,
+    pub right: usize,
+    pub a: i64,
+    pub b: i64,
+    pub c: i64,
+}

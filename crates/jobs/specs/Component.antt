@@ -1,0 +1,64 @@
+-- Document 01, "Groups and their families": "A group is a largest set of counts joined by equations; an untied count is a
+-- group of its own. Groups are numbered in the order of their lowest count." In the field, a connected component.
+use mathlib.Core.Path.{_≡_}
+use mathlib.Core.Bool.{cond, _||_}
+use mathlib.Core.List.{List}
+use Prim.Native.Nat.{ℕ, zero, suc, _+_, _*_, _<_, min}
+use lib.Dec.{eqb, ltb}
+use lib.ListN.{length}
+use Rattle.lists.specs.Keep.{keep}
+use Rattle.lists.specs.Table.{table}
+use Rattle.jobs.specs.Job.{Equation, Job, equation}
+
+-- the equation ties p and q
+pub data Ties (e : Equation) (p q : ℕ) : Type 0 where
+  forth : e .left ≡ p → e .right ≡ q → Ties e p q
+  back : e .left ≡ q → e .right ≡ p → Ties e p q
+
+-- a path from p to q along the first m equations of the job
+pub data Chain (j : Job) (m p : ℕ) : ℕ → Type 0 where
+  stay : {q : ℕ} → p ≡ q → Chain j m p q
+  onward : {q r : ℕ} (k : ℕ) → k < m → Chain j m p q → Ties (equation j k) q r → Chain j m p r
+
+-- p and q are in one group
+abbrev pub Joined : Job → ℕ → ℕ → Type 0
+Joined j = Chain j (length (j .equations))
+
+-- ---- the same as a function: a group is named by its lowest variable (proofs/Components.antt: two variables are joined
+-- exactly when they have the same lowest variable, and it is joined to them and the lowest that is)
+
+-- if i is one of p and q, which an equation brings together, the lower of these
+abbrev pub merged : ℕ → ℕ → ℕ → ℕ
+merged p q i = cond (eqb i p || eqb i q) (min p q) i
+
+-- the lowest variable to which the first m equations join i
+unfoldable pub lowestBy : Job → ℕ → ℕ → ℕ
+lowestBy j zero i = i
+lowestBy j (suc m) i = merged (lowestBy j m (equation j m .left)) (lowestBy j m (equation j m .right)) (lowestBy j m i)
+
+unfoldable pub lowest : Job → ℕ → ℕ
+unfolding lowestBy
+lowest j i = lowestBy j (length (j .equations)) i
+
+-- ---- groups by their numbers
+
+-- the lowest variable of each group, in order
+unfoldable pub leads : Job → List ℕ
+unfolding keep table lowest
+leads j = keep (λ i. eqb (lowest j i) i) (table (λ i. i) (length (j .variables)))
+
+-- 01's g
+abbrev pub componentCount : Job → ℕ
+componentCount j = length (leads j)
+
+-- the number of a variable's group: how many groups have a lower lowest variable
+unfoldable pub component : Job → ℕ → ℕ
+unfolding keep leads lowest
+component j i = length (keep (λ l. ltb l (lowest j i)) (leads j))
+
+-- "24 + 16n", where the group rows of a sheet begin, and "24 + 16n + 16g", where they end
+abbrev pub groupRows : Job → ℕ
+groupRows j = 24 + 16 * length (j .variables)
+
+abbrev pub sheetLength : Job → ℕ
+sheetLength j = groupRows j + 16 * componentCount j
