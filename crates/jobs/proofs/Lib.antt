@@ -3,6 +3,10 @@
 
 -- numbers in bytes, as the code reads them
 pub mod Reading
+-- the first member of a list of which a statement holds
+pub mod Firsts
+-- a reason is reported exactly when its rule is broken and none before it
+pub mod Faults
 -- the solutions of a job, in order, and the best of them
 pub mod Solutions
 -- groups: what joins variables, and how groups are numbered

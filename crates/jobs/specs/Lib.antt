@@ -11,5 +11,11 @@ pub mod Solution
 pub mod Component
 -- what is read off the fit-outs of one group
 pub mod Family
+-- the table of reasons
+pub mod Table
+-- statements that can be decided
+pub mod Decide
+-- the first reason that applies, and the answer of the job check
+pub mod Faults
 -- what inner functions promise each other
 pub mod Method

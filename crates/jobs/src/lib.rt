@@ -2,6 +2,8 @@
 //!
 //! Read `specs/Lib.antt` for the definitions, then this file, then the modules from the bottom up.
 
+use reasons::Reason;
+
 // little-endian numbers
 mod bytes;
 
@@ -19,4 +21,10 @@ pub struct Equation {
     pub a: i64,
     pub b: i64,
     pub c: i64,
+}
+
+/// What the job check answers.
+pub enum Checked {
+    Accepted,
+    Refused(Reason),
 }

@@ -1,0 +1,184 @@
+-- A reason and a row are reported exactly when the rule is broken there and none before it is.
+use mathlib.Core.Path.{_≡_, refl, sym, _∙_, ap, ap₂, subst}
+use mathlib.Core.Logic.{_↔_, _⊎_, inl, inr, ⊎-elim}
+use mathlib.Core.Bool.{Bool, true}
+use mathlib.Core.Option.{Option, none, some}
+use mathlib.Core.List.{List, [], _∷_, _++_, flatMap, List·Memᴰ·not-nil}
+use Prim.Native.Nat.{ℕ, _<_}
+use lib.Dec.{ltb}
+use borrow.Author.Tests.{ltb-true}
+use Rattle.reasons.specs.declared.Reason.{Reason}
+use Rattle.reasons.specs.declared.Reason.the-variants.{ShortJob, WrongMark, TooMany, WrongHeader, VariableRange, EquationVariables, EquationRange, ShortArea, WrongArgument}
+use Rattle.reasons.specs.Numbers.{numberOf, rowOf}
+use Rattle.ints.proofs.{pos, _<ℤ_, arith, lin, facts}
+use Rattle.lists.specs.Keep.{every}
+use Rattle.lists.specs.Lexicographic.{now, later}
+use Rattle.lists.proofs.Keep.{every-iff}
+use Rattle.lists.specs.Members.{_∈_, here, there}
+use Rattle.lists.specs.Rising.{Rising, none as nothing, more}
+use Rattle.lists.specs.Table.{table}
+use Rattle.lists.proofs.Members.{in-append, in-flatMap}
+use Rattle.lists.proofs.Rising.{rising-append, rising-flatMap}
+use Rattle.lists.proofs.Table.{in-table, rising-table}
+use Rattle.lists.proofs.Lexicographic.{lower-asym}
+use Rattle.jobs.specs.Job.{variableCount, equationCount}
+use Rattle.jobs.specs.Table.{Broken, placeOf, Before, IsFirst}
+use Rattle.jobs.specs.Decide.{firstOf}
+use Rattle.jobs.specs.Faults.{broken?, headerChecks, equationChecks, rowChecks, checks, firstBroken, noArea?, Answer, accepted, refused, answered, checked, ChecksExactly}
+use Rattle.jobs.proofs.Firsts.{first-iff, none-holds, holds-none}
+
+before-asym : (r t : Reason) → Before r t → Before t r → ⊥
+before-asym r t = lower-asym _ _
+
+-- ---- what stands before what
+counts : {m n : ℕ} → m < n → pos m <ℤ pos n
+counts {m} {n} h = lin (pos m ∷ pos n ∷ []) h (search facts depth 20) (omega arith)
+
+by-place : (r t : Reason) → placeOf r < placeOf t → Before r t
+by-place r t h = now (counts h)
+
+by-row : (r t : Reason) → placeOf r ≡ placeOf t → rowOf r < rowOf t → Before r t
+by-row r t e h = later (ap pos e) (now (counts h))
+
+by-number : (r t : Reason) → placeOf r ≡ placeOf t → rowOf r ≡ rowOf t → numberOf r < numberOf t → Before r t
+by-number r t e f h = later (ap pos e) (later (ap pos f) (now (counts h)))
+
+-- ---- the checks stand in the order of the table
+placed : (test : ℕ → Bool) (xs : List Reason) → every (λ r. test (placeOf r)) xs ≡ true → (r : Reason) → r ∈ xs → test (placeOf r) ≡ true
+placed test xs e r m = every-iff (λ r. test (placeOf r)) xs .0 e r m
+
+ahead : (r : Reason) (xs : List Reason) → every (λ t. ltb (placeOf r) (placeOf t)) xs ≡ true → (t : Reason) → t ∈ xs → Before r t
+ahead r xs e t m = by-place r t (ltb-true (placeOf r) (placeOf t) (placed (ltb (placeOf r)) xs e t m))
+
+in-header : (r : Reason) → r ∈ headerChecks → placeOf r < 5
+unfolding every
+in-header r m = ltb-true (placeOf r) 5 (placed (λ p. ltb p 5) headerChecks refl r m)
+
+rising-header : Rising Before headerChecks
+unfolding every
+rising-header = more (ahead ShortJob _ refl) (more (ahead WrongMark _ refl) (more (ahead TooMany _ refl) (more (ahead WrongHeader [] refl) nothing)))
+
+-- the two checks of one equation's row
+of-row : (k : ℕ) (r : Reason) → r ∈ equationChecks k → (placeOf r ≡ 6) × (rowOf r ≡ k)
+of-row k r (here e) = (ap placeOf e, ap rowOf e)
+of-row k r (there (here e)) = (ap placeOf e, ap rowOf e)
+
+rising-row : (k : ℕ) → Rising Before (equationChecks k)
+rising-row k = more first (more (λ y m. absurd (List·Memᴰ·not-nil m)) nothing)
+  where
+    first : (t : Reason) → t ∈ EquationRange k ∷ [] → Before (EquationVariables k) t
+    first t (here e) = subst (Before (EquationVariables k)) (sym e) (by-number (EquationVariables k) (EquationRange k) refl refl (omega arith))
+
+across-rows : (j k : ℕ) → j < k → (r t : Reason) → r ∈ equationChecks j → t ∈ equationChecks k → Before r t
+across-rows j k h r t m l = let (p, q) = of-row j r m in let (u, v) = of-row k t l in by-row r t (p ∙ sym u) (omega arith)
+
+-- all of them; the second part is where each stands
+module _ (s : List ℕ) where
+  in-variables : (r : Reason) → r ∈ table VariableRange (variableCount s) → placeOf r ≡ 5
+  in-variables r m = let (i, h, e) = in-table VariableRange (variableCount s) r .0 m in ap placeOf e
+
+  in-equations : (r : Reason) → r ∈ flatMap equationChecks (table (λ k. k) (equationCount s)) → placeOf r ≡ 6
+  in-equations r m = let (k, h, l) = in-flatMap equationChecks (table (λ k. k) (equationCount s)) r .0 m in of-row k r l .0
+
+  in-rows : (r : Reason) → r ∈ rowChecks s → (4 < placeOf r) × (placeOf r < 7)
+  unfolding rowChecks
+  in-rows r m = ⊎-elim (λ h. let e = in-variables r h in (omega arith, omega arith)) (λ h. let e = in-equations r h in (omega arith, omega arith))
+      (in-append (table VariableRange (variableCount s)) (flatMap equationChecks (table (λ k. k) (equationCount s))) r .0 m)
+
+  rising-rows : Rising Before (rowChecks s)
+  unfolding rowChecks
+  rising-rows = rising-append (rising-table VariableRange (variableCount s) (λ j k h l. by-row (VariableRange j) (VariableRange k) refl h))
+      (rising-flatMap equationChecks rising-row across-rows (rising-table (λ k. k) (equationCount s) (λ j k h l. h)))
+      (λ r t m l. let e = in-variables r m in let f = in-equations t l in by-place r t (omega arith))
+
+  rising-checks : Rising Before (checks s)
+  unfolding checks
+  rising-checks = rising-append rising-header (rising-append rising-rows (more (λ y m. absurd (List·Memᴰ·not-nil m)) nothing) to-area) from-header
+    where
+      to-area : (r t : Reason) → r ∈ rowChecks s → t ∈ ShortArea ∷ [] → Before r t
+      to-area r t m (here e) = subst (Before r) (sym e) (by-place r ShortArea (in-rows r m .1))
+
+      past-header : (t : Reason) → t ∈ rowChecks s ++ ShortArea ∷ [] → 4 < placeOf t
+      past-header t m = ⊎-elim (λ h. in-rows t h .0) area (in-append (rowChecks s) (ShortArea ∷ []) t .0 m)
+        where
+          area : t ∈ ShortArea ∷ [] → 4 < placeOf t
+          area (here e) = subst (λ u. 4 < placeOf u) (sym e) (omega arith)
+
+      from-header : (r t : Reason) → r ∈ headerChecks → t ∈ rowChecks s ++ ShortArea ∷ [] → Before r t
+      from-header r t m l = let h = in-header r m in let k = past-header t l in by-place r t (omega arith)
+
+  -- a rule that is broken is among them
+  in-last : {r : Reason} → r ∈ ShortArea ∷ [] → r ∈ checks s
+  unfolding checks
+  in-last {r} m = in-append headerChecks (rowChecks s ++ ShortArea ∷ []) r .1 (inr (in-append (rowChecks s) (ShortArea ∷ []) r .1 (inr m)))
+
+  in-first : {r : Reason} → r ∈ headerChecks → r ∈ checks s
+  unfolding checks
+  in-first {r} m = in-append headerChecks (rowChecks s ++ ShortArea ∷ []) r .1 (inl m)
+
+  in-middle : {r : Reason} → (r ∈ table VariableRange (variableCount s)) ⊎ (r ∈ flatMap equationChecks (table (λ k. k) (equationCount s))) → r ∈ checks s
+  unfolding checks rowChecks
+  in-middle {r} m =
+      let rows = in-append (table VariableRange (variableCount s)) (flatMap equationChecks (table (λ k. k) (equationCount s))) r .1 m in
+      in-append headerChecks (rowChecks s ++ ShortArea ∷ []) r .1 (inr (in-append (rowChecks s) (ShortArea ∷ []) r .1 (inl rows)))
+
+  in-row : {r : Reason} (k : ℕ) → k < equationCount s → r ∈ equationChecks k → r ∈ checks s
+  in-row {r} k h m = in-middle (inr (in-flatMap equationChecks (table (λ k. k) (equationCount s)) r .1 (k, in-table (λ k. k) (equationCount s) k .1 (k, h, refl), m)))
+
+  among : (short : Type 0) (r : Reason) → Broken short s r → r ∈ checks s
+  among short ShortJob b = in-first (here refl)
+  among short WrongMark b = in-first (there (here refl))
+  among short TooMany b = in-first (there (there (here refl)))
+  among short WrongHeader b = in-first (there (there (there (here refl))))
+  among short (VariableRange i) b = in-middle (inl (in-table VariableRange (variableCount s) (VariableRange i) .1 (i, b .0, refl)))
+  among short (EquationVariables k) b = in-row k (b .0) (here refl)
+  among short (EquationRange k) b = in-row k (b .0) (there (here refl))
+  among short ShortArea b = in-last (here refl)
+  among short WrongArgument b = absurd b
+
+  -- ---- the theorem, for a caller that lends an area and for one that does not
+  module _ {short : Type 0} (d : Dec short) where
+    pub reported-iff : (r : Reason) → (firstBroken d s ≡ some r) ↔ IsFirst short s r
+    unfolding firstBroken
+    reported-iff r = (
+      λ e. let (m, f) = iff .0 e in record { broken = f .0; none-before = λ t b h. f .1 t (among short t h) b h },
+      λ f. iff .1 (among short r (f .broken), (f .broken, λ t m b. f .none-before t b)),
+    )
+      where
+        iff : (firstOf (broken? d s) (checks s) ≡ some r) ↔ ((r ∈ checks s) × (Broken short s r × ((t : Reason) → t ∈ checks s → Before t r → ¬ Broken short s t)))
+        iff = first-iff (broken? d s) before-asym rising-checks r
+
+    pub sound-iff : (firstBroken d s ≡ none) ↔ ((r : Reason) → ¬ Broken short s r)
+    unfolding firstBroken
+    sound-iff = (λ e r b. none-holds (broken? d s) (checks s) e r (among short r b) b, λ f. holds-none (broken? d s) (checks s) (λ r m. f r))
+
+-- ---- so what the job check answers is what demand 1 asks of it
+-- a case of an answer is no other case, and says what it says
+abbrev IsRefused : Answer → ℕ → ℕ → Type 0
+IsRefused accepted p q = ⊥
+IsRefused (refused reason row) p q = (reason ≡ p) × (row ≡ q)
+
+abbrev IsAccepted : Answer → Type 0
+IsAccepted accepted = Unit {0}
+IsAccepted (refused reason row) = ⊥
+
+was-refused : (o : Option Reason) (p q : ℕ) → IsRefused (answered o) p q → (r : Reason) × ((o ≡ some r) × ((numberOf r ≡ p) × (rowOf r ≡ q)))
+was-refused none p q e = absurd e
+was-refused (some r) p q e = (r, (refl, e))
+
+was-accepted : (o : Option Reason) → IsAccepted (answered o) → o ≡ none
+was-accepted none e = refl
+was-accepted (some r) e = absurd e
+
+pub checks-exactly : (s : List ℕ) → ChecksExactly s (checked s)
+unfolding checked
+checks-exactly s = record {
+  refusal = λ p q. (
+    λ e. let (r, h) = was-refused (firstBroken noArea? s) p q (subst (λ x. IsRefused x p q) (sym e) (refl, refl)) in (r, (h .1 .0, (h .1 .1, reported-iff s noArea? r .0 (h .0)))),
+    λ (r, h). ap answered (reported-iff s noArea? r .1 (h .1 .1)) ∙ ap₂ refused (h .0) (h .1 .0),
+  );
+  acceptance = (
+    λ e. sound-iff s noArea? .0 (was-accepted (firstBroken noArea? s) (subst IsAccepted (sym e) tt)),
+    λ f. ap answered (sound-iff s noArea? .1 f),
+  );
+}

@@ -1,0 +1,101 @@
+-- The first fault of a job, as a function that computes, and what the job check answers.
+use mathlib.Core.Path.{_≡_}
+use mathlib.Core.Logic.{_↔_}
+use mathlib.Core.Option.{Option, none, some}
+use mathlib.Core.List.{List, [], _∷_, _++_, flatMap}
+use Prim.Native.Nat.{ℕ, _+_, _*_}
+use lib.ListN.{length, take}
+use Rattle.reasons.specs.declared.Reason.{Reason}
+use Rattle.reasons.specs.declared.Reason.the-variants.{ShortJob, WrongMark, TooMany, WrongHeader, VariableRange, EquationVariables, EquationRange, ShortArea, WrongArgument}
+use Rattle.reasons.specs.Numbers.{numberOf, rowOf}
+use Rattle.jobs.specs.declared.Checked.{Checked}
+use Rattle.jobs.specs.declared.Checked.the-variants.{Accepted, Refused}
+use Rattle.lists.specs.Table.{table}
+use Rattle.runs.specs.Run.{bound}
+use Rattle.runs.specs.Workings.{inLimits}
+use Rattle.runs.proofs.Refusals.{in-limits-iff}
+use Rattle.jobs.specs.Bytes.{unsigned, u32}
+use Rattle.jobs.specs.Decide.{tested, below?, atMost?, equal?, within?, by, both, either, not?, list?, firstOf}
+use Rattle.jobs.specs.Job.{Variable, Equation, variableCount, equationCount, equationRow, variableAt, equationAt}
+use Rattle.jobs.specs.Table.{mark, Header, InRange, Coefficients, Misnamed, Broken, NoArea, Reported}
+
+-- ---- each condition of the table can be decided
+abbrev pub header? : (s : List ℕ) → Dec (Header s)
+header? s =
+    let whole = equationRow (variableCount s) (equationCount s) in
+    by (
+      λ h. record { variables = h .0; equations = h .1 .0; length-field = h .1 .1 .0; zeros = h .1 .1 .1 .0; real-length = h .1 .1 .1 .1 },
+      λ h. (h .variables, (h .equations, (h .length-field, (h .zeros, h .real-length)))),
+    )
+    (both (equal? (u32 s 8) 24) (both (equal? (u32 s 12) (24 + 12 * variableCount s)) (both (equal? (u32 s 16) whole) (both (equal? (u32 s 20) 0) (equal? (length s) whole)))))
+
+abbrev pub inRange? : (v : Variable) → Dec (InRange v)
+inRange? v =
+    by (λ h. record { low = h .0; high = h .1 .0; weight = h .1 .1 }, λ h. (h .low, (h .high, h .weight)))
+    (both (within? bound (v .low)) (both (within? bound (v .high)) (within? 1000000 (v .weight))))
+
+abbrev pub coefficients? : (e : Equation) → Dec (Coefficients e)
+coefficients? e = tested (inLimits record { a = e .a; b = e .b; c = e .c }) (in-limits-iff record { a = e .a; b = e .b; c = e .c })
+
+abbrev pub misnamed? : (n : ℕ) (e : Equation) → Dec (Misnamed n e)
+misnamed? n e = either (atMost? n (e .left)) (either (atMost? n (e .right)) (equal? (e .left) (e .right)))
+
+abbrev pub broken? : {short : Type 0} → Dec short → (s : List ℕ) (r : Reason) → Dec (Broken short s r)
+broken? d s ShortJob = below? (length s) 24
+broken? d s WrongMark = not? (list? (take 4 s) mark)
+broken? d s TooMany = either (below? 256 (variableCount s)) (below? 1024 (equationCount s))
+broken? d s WrongHeader = not? (header? s)
+broken? d s (VariableRange i) = both (below? i (variableCount s)) (not? (inRange? (variableAt s i)))
+broken? d s (EquationVariables k) = both (below? k (equationCount s)) (misnamed? (variableCount s) (equationAt s k))
+broken? d s (EquationRange k) = both (below? k (equationCount s)) (not? (coefficients? (equationAt s k)))
+broken? d s ShortArea = d
+broken? d s WrongArgument = no (λ h. h)
+
+-- ---- the checks in the order of the table: all variables' rows, then the equations' rows in turn
+abbrev pub headerChecks : List Reason
+headerChecks = ShortJob ∷ WrongMark ∷ TooMany ∷ WrongHeader ∷ []
+
+abbrev pub equationChecks : ℕ → List Reason
+equationChecks k = EquationVariables k ∷ EquationRange k ∷ []
+
+unfoldable pub rowChecks : List ℕ → List Reason
+unfolding table flatMap unsigned
+rowChecks s = table VariableRange (variableCount s) ++ flatMap equationChecks (table (λ k. k) (equationCount s))
+
+unfoldable pub checks : List ℕ → List Reason
+unfolding rowChecks
+checks s = headerChecks ++ (rowChecks s ++ ShortArea ∷ [])
+
+-- the first of them that is broken (proofs/Faults.antt: exactly the one that is broken and none before it)
+unfoldable pub firstBroken : {short : Type 0} → Dec short → List ℕ → Option Reason
+unfolding firstOf checks
+firstBroken d s = firstOf (broken? d s) (checks s)
+
+-- ---- what the job check answers: "The job check reports as the planner does through reason 7, and otherwise accepts."
+pub data Answer : Type 0 where
+  accepted : Answer
+  refused : ℕ → ℕ → Answer
+
+abbrev pub answered : Option Reason → Answer
+answered none = accepted
+answered (some r) = refused (numberOf r) (rowOf r)
+
+-- what each case of the program's enum says
+abbrev pub faultOf : Checked → Option Reason
+faultOf Accepted = none
+faultOf (Refused r) = some r
+
+abbrev pub answerOf : Checked → Answer
+answerOf c = answered (faultOf c)
+
+abbrev pub noArea? : Dec NoArea
+noArea? = no (λ h. h)
+
+unfoldable pub checked : List ℕ → Answer
+unfolding firstBroken
+checked s = answered (firstBroken noArea? s)
+
+-- demand 1 for the job check, in the words of the table: refused exactly when a rule is broken, by the first that is
+pub record ChecksExactly (s : List ℕ) (x : Answer) : Type 0 where
+  pub refusal : (reason row : ℕ) → (x ≡ refused reason row) ↔ Reported NoArea s reason row
+  pub acceptance : (x ≡ accepted) ↔ ((r : Reason) → ¬ Broken NoArea s r)
