@@ -17,5 +17,13 @@ pub mod Table
 pub mod Decide
 -- the first reason that applies, and the answer of the job check
 pub mod Faults
+-- the outcome of a plan
+pub mod Verdict
+-- the answer area after it
+pub mod Sheet
+-- the three demands
+pub mod Demands
 -- what inner functions promise each other
 pub mod Method
+-- small jobs through all of them
+pub mod Vectors

@@ -1,0 +1,272 @@
+-- Small jobs through the definitions, byte for byte. What is expected of each was worked out by hand from document 01; a row of
+-- a sheet stands on a line, under its fields.
+use mathlib.Core.Path.{_≡_, refl, ap}
+use mathlib.Core.List.{List, [], _∷_, _++_, map}
+use Prim.Native.Nat.{ℕ, _+_}
+use lib.ListN.{length}
+use lib.IntN.{ℤ, pos}
+use Rattle.lists.specs.Members.{_∈_}
+use Rattle.lists.specs.Table.{table}
+use Rattle.lists.proofs.Maps.{same-values}
+use Rattle.jobs.specs.Job.{jobOf}
+use Rattle.jobs.specs.Solution.{solutions, objective, best}
+use Rattle.jobs.specs.Component.{leads, component}
+use Rattle.jobs.specs.Family.{componentJob}
+use Rattle.jobs.specs.Verdict.{Verdict, planned, noFit, refused, verdict}
+use Rattle.jobs.specs.Sheet.{sheet}
+use Rattle.jobs.specs.Demands.{worthOn, numbersOn, fitsOn, memberOn}
+
+-- a job, the area as lent, and what they give
+pub record Vector : Type 0 where
+  pub job : List ℕ
+  pub area : List ℕ
+  pub verdict : Verdict
+  pub after : List ℕ
+
+-- an area of n bytes: 100, 101, 102 and so on
+abbrev lent : ℕ → List ℕ
+lent n = table (λ i. 100 + i) n
+
+-- an area as long as what stands in it afterwards, and one of n bytes that keeps its contents
+abbrev filled : List ℕ → ℤ → List ℕ → Vector
+filled job worth after = record { job = job; area = lent (length after); verdict = planned worth; after = after }
+
+abbrev untouched : List ℕ → ℕ → Verdict → Vector
+untouched job n v = record { job = job; area = lent n; verdict = v; after = lent n }
+
+-- ---- rows of a job whose fields fit one byte
+abbrev header : ℕ → ℕ → ℕ → ℕ → List ℕ
+header n m rows whole = 70 ∷ 73 ∷ 84 ∷ 49 ∷ n ∷ 0 ∷ m ∷ 0 ∷ 24 ∷ 0 ∷ 0 ∷ 0 ∷ rows ∷ 0 ∷ 0 ∷ 0 ∷ whole ∷ 0 ∷ 0 ∷ 0 ∷ 0 ∷ 0 ∷ 0 ∷ 0 ∷ []
+
+abbrev count : ℕ → ℕ → ℕ → List ℕ
+count low high weight = low ∷ 0 ∷ 0 ∷ 0 ∷ high ∷ 0 ∷ 0 ∷ 0 ∷ weight ∷ 0 ∷ 0 ∷ 0 ∷ []
+
+abbrev equation : ℕ → ℕ → ℕ → ℕ → ℕ → List ℕ
+equation left right a b c = left ∷ 0 ∷ right ∷ 0 ∷ a ∷ 0 ∷ 0 ∷ 0 ∷ b ∷ 0 ∷ 0 ∷ 0 ∷ c ∷ 0 ∷ 0 ∷ 0 ∷ 0 ∷ 0 ∷ 0 ∷ 0 ∷ []
+
+-- left − right = c
+abbrev difference : ℕ → ℕ → ℕ → List ℕ
+difference left right c = left ∷ 0 ∷ right ∷ 0 ∷ 1 ∷ 0 ∷ 0 ∷ 0 ∷ 255 ∷ 255 ∷ 255 ∷ 255 ∷ c ∷ 0 ∷ 0 ∷ 0 ∷ 0 ∷ 0 ∷ 0 ∷ 0 ∷ []
+
+-- ---- jobs with a fit-out, and their sheets
+-- document 01's job M, with narrower bounds
+abbrev narrowM : List ℕ
+narrowM =
+    header 4 2 72 112 ++
+    -- 2..5, weight −30
+    2 ∷ 0 ∷ 0 ∷ 0 ∷ 5 ∷ 0 ∷ 0 ∷ 0 ∷ 226 ∷ 255 ∷ 255 ∷ 255 ∷ [] ++
+    count 32 80 4 ++
+    -- 0..3, weight −10
+    0 ∷ 0 ∷ 0 ∷ 0 ∷ 3 ∷ 0 ∷ 0 ∷ 0 ∷ 246 ∷ 255 ∷ 255 ∷ 255 ∷ [] ++
+    count 2 3 0 ++
+    -- 16·c0 − c1 = 0
+    0 ∷ 0 ∷ 1 ∷ 0 ∷ 16 ∷ 0 ∷ 0 ∷ 0 ∷ 255 ∷ 255 ∷ 255 ∷ 255 ∷ 0 ∷ 0 ∷ 0 ∷ 0 ∷ 0 ∷ 0 ∷ 0 ∷ 0 ∷ [] ++
+    -- 2·c0 − 3·c2 = 4
+    0 ∷ 0 ∷ 2 ∷ 0 ∷ 2 ∷ 0 ∷ 0 ∷ 0 ∷ 253 ∷ 255 ∷ 255 ∷ 255 ∷ 4 ∷ 0 ∷ 0 ∷ 0 ∷ 0 ∷ 0 ∷ 0 ∷ 0 ∷ []
+
+abbrev narrowMSheet : List ℕ
+narrowMSheet =
+    -- 4 counts, 2 groups, their rows at 88, worth 150
+    65 ∷ 78 ∷ 83 ∷ 49 ∷ 4 ∷ 0 ∷ 2 ∷ 0 ∷ 24 ∷ 0 ∷ 0 ∷ 0 ∷ 88 ∷ 0 ∷ 0 ∷ 0 ∷ 150 ∷ 0 ∷ 0 ∷ 0 ∷ 0 ∷ 0 ∷ 0 ∷ 0 ∷ [] ++
+    -- count 0: number 5, base 2, step 3, group 0
+    5 ∷ 0 ∷ 0 ∷ 0 ∷ 2 ∷ 0 ∷ 0 ∷ 0 ∷ 3 ∷ 0 ∷ 0 ∷ 0 ∷ 0 ∷ 0 ∷ 0 ∷ 0 ∷ [] ++
+    -- count 1: number 80, base 32, step 48, group 0
+    80 ∷ 0 ∷ 0 ∷ 0 ∷ 32 ∷ 0 ∷ 0 ∷ 0 ∷ 48 ∷ 0 ∷ 0 ∷ 0 ∷ 0 ∷ 0 ∷ 0 ∷ 0 ∷ [] ++
+    -- count 2: number 2, base 0, step 2, group 0
+    2 ∷ 0 ∷ 0 ∷ 0 ∷ 0 ∷ 0 ∷ 0 ∷ 0 ∷ 2 ∷ 0 ∷ 0 ∷ 0 ∷ 0 ∷ 0 ∷ 0 ∷ 0 ∷ [] ++
+    -- count 3: number 2, base 2, step 1, group 1
+    2 ∷ 0 ∷ 0 ∷ 0 ∷ 2 ∷ 0 ∷ 0 ∷ 0 ∷ 1 ∷ 0 ∷ 0 ∷ 0 ∷ 1 ∷ 0 ∷ 0 ∷ 0 ∷ [] ++
+    -- group 0: fits 2, k 1, gain 82
+    2 ∷ 0 ∷ 0 ∷ 0 ∷ 1 ∷ 0 ∷ 0 ∷ 0 ∷ 82 ∷ 0 ∷ 0 ∷ 0 ∷ 0 ∷ 0 ∷ 0 ∷ 0 ∷ [] ++
+    -- group 1: fits 2, k 0, gain 0
+    2 ∷ 0 ∷ 0 ∷ 0 ∷ 0 ∷ 0 ∷ 0 ∷ 0 ∷ 0 ∷ 0 ∷ 0 ∷ 0 ∷ 0 ∷ 0 ∷ 0 ∷ 0 ∷ []
+
+-- no counts, no groups, their rows at 24, worth 0
+abbrev emptySheet : List ℕ
+emptySheet = 65 ∷ 78 ∷ 83 ∷ 49 ∷ 0 ∷ 0 ∷ 0 ∷ 0 ∷ 24 ∷ 0 ∷ 0 ∷ 0 ∷ 24 ∷ 0 ∷ 0 ∷ 0 ∷ 0 ∷ 0 ∷ 0 ∷ 0 ∷ 0 ∷ 0 ∷ 0 ∷ 0 ∷ []
+
+-- two untied counts, with weights of either sign
+abbrev untied : List ℕ
+untied =
+    header 2 0 48 48 ++
+    -- −2..3, weight 5
+    254 ∷ 255 ∷ 255 ∷ 255 ∷ 3 ∷ 0 ∷ 0 ∷ 0 ∷ 5 ∷ 0 ∷ 0 ∷ 0 ∷ [] ++
+    -- −3..0, weight −2
+    253 ∷ 255 ∷ 255 ∷ 255 ∷ 0 ∷ 0 ∷ 0 ∷ 0 ∷ 254 ∷ 255 ∷ 255 ∷ 255 ∷ []
+
+abbrev untiedSheet : List ℕ
+untiedSheet =
+    -- 2 counts, 2 groups, their rows at 56, worth 21
+    65 ∷ 78 ∷ 83 ∷ 49 ∷ 2 ∷ 0 ∷ 2 ∷ 0 ∷ 24 ∷ 0 ∷ 0 ∷ 0 ∷ 56 ∷ 0 ∷ 0 ∷ 0 ∷ 21 ∷ 0 ∷ 0 ∷ 0 ∷ 0 ∷ 0 ∷ 0 ∷ 0 ∷ [] ++
+    -- count 0: number 3, base −2, step 1, group 0
+    3 ∷ 0 ∷ 0 ∷ 0 ∷ 254 ∷ 255 ∷ 255 ∷ 255 ∷ 1 ∷ 0 ∷ 0 ∷ 0 ∷ 0 ∷ 0 ∷ 0 ∷ 0 ∷ [] ++
+    -- count 1: number −3, base −3, step 1, group 1
+    253 ∷ 255 ∷ 255 ∷ 255 ∷ 253 ∷ 255 ∷ 255 ∷ 255 ∷ 1 ∷ 0 ∷ 0 ∷ 0 ∷ 1 ∷ 0 ∷ 0 ∷ 0 ∷ [] ++
+    -- group 0: fits 6, k 5, gain 5
+    6 ∷ 0 ∷ 0 ∷ 0 ∷ 5 ∷ 0 ∷ 0 ∷ 0 ∷ 5 ∷ 0 ∷ 0 ∷ 0 ∷ 0 ∷ 0 ∷ 0 ∷ 0 ∷ [] ++
+    -- group 1: fits 4, k 0, gain −2
+    4 ∷ 0 ∷ 0 ∷ 0 ∷ 0 ∷ 0 ∷ 0 ∷ 0 ∷ 254 ∷ 255 ∷ 255 ∷ 255 ∷ 255 ∷ 255 ∷ 255 ∷ 255 ∷ []
+
+-- c0 + 2·c1 = 0
+abbrev falling : List ℕ
+falling =
+    header 2 1 48 68 ++
+    -- −5..5
+    251 ∷ 255 ∷ 255 ∷ 255 ∷ 5 ∷ 0 ∷ 0 ∷ 0 ∷ 0 ∷ 0 ∷ 0 ∷ 0 ∷ [] ++
+    -- −3..3, weight 1
+    253 ∷ 255 ∷ 255 ∷ 255 ∷ 3 ∷ 0 ∷ 0 ∷ 0 ∷ 1 ∷ 0 ∷ 0 ∷ 0 ∷ [] ++
+    equation 0 1 1 2 0
+
+abbrev fallingSheet : List ℕ
+fallingSheet =
+    -- 2 counts, 1 group, its row at 56, worth 2
+    65 ∷ 78 ∷ 83 ∷ 49 ∷ 2 ∷ 0 ∷ 1 ∷ 0 ∷ 24 ∷ 0 ∷ 0 ∷ 0 ∷ 56 ∷ 0 ∷ 0 ∷ 0 ∷ 2 ∷ 0 ∷ 0 ∷ 0 ∷ 0 ∷ 0 ∷ 0 ∷ 0 ∷ [] ++
+    -- count 0: number −4, base −4, step 2, group 0
+    252 ∷ 255 ∷ 255 ∷ 255 ∷ 252 ∷ 255 ∷ 255 ∷ 255 ∷ 2 ∷ 0 ∷ 0 ∷ 0 ∷ 0 ∷ 0 ∷ 0 ∷ 0 ∷ [] ++
+    -- count 1: number 2, base 2, step −1, group 0
+    2 ∷ 0 ∷ 0 ∷ 0 ∷ 2 ∷ 0 ∷ 0 ∷ 0 ∷ 255 ∷ 255 ∷ 255 ∷ 255 ∷ 0 ∷ 0 ∷ 0 ∷ 0 ∷ [] ++
+    -- group 0: fits 5, k 0, gain −1
+    5 ∷ 0 ∷ 0 ∷ 0 ∷ 0 ∷ 0 ∷ 0 ∷ 0 ∷ 255 ∷ 255 ∷ 255 ∷ 255 ∷ 255 ∷ 255 ∷ 255 ∷ 255 ∷ []
+
+-- a ring: c0 + c1 = 5 and c0 − c1 = c
+abbrev ring : ℕ → List ℕ
+ring c = header 2 2 48 88 ++ count 0 9 0 ++ count 0 9 0 ++ equation 0 1 1 1 5 ++ difference 0 1 c
+
+-- 2 counts, 1 group, its row at 56, worth 0
+abbrev worthNothing : List ℕ
+worthNothing = 65 ∷ 78 ∷ 83 ∷ 49 ∷ 2 ∷ 0 ∷ 1 ∷ 0 ∷ 24 ∷ 0 ∷ 0 ∷ 0 ∷ 56 ∷ 0 ∷ 0 ∷ 0 ∷ 0 ∷ 0 ∷ 0 ∷ 0 ∷ 0 ∷ 0 ∷ 0 ∷ 0 ∷ []
+
+-- for c = 1
+abbrev ringSheet : List ℕ
+ringSheet =
+    worthNothing ++
+    -- count 0: number 3, base 3, step 0, group 0
+    3 ∷ 0 ∷ 0 ∷ 0 ∷ 3 ∷ 0 ∷ 0 ∷ 0 ∷ 0 ∷ 0 ∷ 0 ∷ 0 ∷ 0 ∷ 0 ∷ 0 ∷ 0 ∷ [] ++
+    -- count 1: number 2, base 2, step 0, group 0
+    2 ∷ 0 ∷ 0 ∷ 0 ∷ 2 ∷ 0 ∷ 0 ∷ 0 ∷ 0 ∷ 0 ∷ 0 ∷ 0 ∷ 0 ∷ 0 ∷ 0 ∷ 0 ∷ [] ++
+    -- group 0: fits 1, k 0, gain 0
+    1 ∷ 0 ∷ 0 ∷ 0 ∷ 0 ∷ 0 ∷ 0 ∷ 0 ∷ 0 ∷ 0 ∷ 0 ∷ 0 ∷ 0 ∷ 0 ∷ 0 ∷ 0 ∷ []
+
+-- c0 − c1 = 0 and c0 − c1 = c
+abbrev twice : ℕ → List ℕ
+twice c = header 2 2 48 88 ++ count 0 3 0 ++ count 0 3 0 ++ difference 0 1 0 ++ difference 0 1 c
+
+-- for c = 0
+abbrev twiceSheet : List ℕ
+twiceSheet =
+    worthNothing ++
+    -- count 0: number 0, base 0, step 1, group 0
+    0 ∷ 0 ∷ 0 ∷ 0 ∷ 0 ∷ 0 ∷ 0 ∷ 0 ∷ 1 ∷ 0 ∷ 0 ∷ 0 ∷ 0 ∷ 0 ∷ 0 ∷ 0 ∷ [] ++
+    -- count 1: the same
+    0 ∷ 0 ∷ 0 ∷ 0 ∷ 0 ∷ 0 ∷ 0 ∷ 0 ∷ 1 ∷ 0 ∷ 0 ∷ 0 ∷ 0 ∷ 0 ∷ 0 ∷ 0 ∷ [] ++
+    -- group 0: fits 4, k 0, gain 0
+    4 ∷ 0 ∷ 0 ∷ 0 ∷ 0 ∷ 0 ∷ 0 ∷ 0 ∷ 0 ∷ 0 ∷ 0 ∷ 0 ∷ 0 ∷ 0 ∷ 0 ∷ 0 ∷ []
+
+-- c0 and c2 make one group, c0 − c2 = 0; c1 and c3 make another, by the tie given
+abbrev groups : List ℕ → List ℕ
+groups tie = header 4 2 72 112 ++ count 0 3 1 ++ count 0 3 1 ++ count 0 3 0 ++ count 0 3 1 ++ difference 0 2 0 ++ tie
+
+-- for c1 + c3 = 3: each of the four fit-outs of the second group makes the worth 6, and the lowest c1 comes first
+abbrev groupsSheet : List ℕ
+groupsSheet =
+    -- 4 counts, 2 groups, their rows at 88, worth 6
+    65 ∷ 78 ∷ 83 ∷ 49 ∷ 4 ∷ 0 ∷ 2 ∷ 0 ∷ 24 ∷ 0 ∷ 0 ∷ 0 ∷ 88 ∷ 0 ∷ 0 ∷ 0 ∷ 6 ∷ 0 ∷ 0 ∷ 0 ∷ 0 ∷ 0 ∷ 0 ∷ 0 ∷ [] ++
+    -- count 0: number 3, base 0, step 1, group 0
+    3 ∷ 0 ∷ 0 ∷ 0 ∷ 0 ∷ 0 ∷ 0 ∷ 0 ∷ 1 ∷ 0 ∷ 0 ∷ 0 ∷ 0 ∷ 0 ∷ 0 ∷ 0 ∷ [] ++
+    -- count 1: number 0, base 0, step 1, group 1
+    0 ∷ 0 ∷ 0 ∷ 0 ∷ 0 ∷ 0 ∷ 0 ∷ 0 ∷ 1 ∷ 0 ∷ 0 ∷ 0 ∷ 1 ∷ 0 ∷ 0 ∷ 0 ∷ [] ++
+    -- count 2: number 3, base 0, step 1, group 0
+    3 ∷ 0 ∷ 0 ∷ 0 ∷ 0 ∷ 0 ∷ 0 ∷ 0 ∷ 1 ∷ 0 ∷ 0 ∷ 0 ∷ 0 ∷ 0 ∷ 0 ∷ 0 ∷ [] ++
+    -- count 3: number 3, base 3, step −1, group 1
+    3 ∷ 0 ∷ 0 ∷ 0 ∷ 3 ∷ 0 ∷ 0 ∷ 0 ∷ 255 ∷ 255 ∷ 255 ∷ 255 ∷ 1 ∷ 0 ∷ 0 ∷ 0 ∷ [] ++
+    -- group 0: fits 4, k 3, gain 1
+    4 ∷ 0 ∷ 0 ∷ 0 ∷ 3 ∷ 0 ∷ 0 ∷ 0 ∷ 1 ∷ 0 ∷ 0 ∷ 0 ∷ 0 ∷ 0 ∷ 0 ∷ 0 ∷ [] ++
+    -- group 1: fits 4, k 0, gain 0
+    4 ∷ 0 ∷ 0 ∷ 0 ∷ 0 ∷ 0 ∷ 0 ∷ 0 ∷ 0 ∷ 0 ∷ 0 ∷ 0 ∷ 0 ∷ 0 ∷ 0 ∷ 0 ∷ []
+
+-- ---- jobs without one
+-- 2·c0 + 4·c1 = 7
+abbrev uneven : List ℕ
+uneven = header 2 1 48 68 ++ count 0 9 0 ++ count 0 9 0 ++ equation 0 1 2 4 7
+
+-- 3·c0 − 5·c1 = 0
+abbrev noMultiple : List ℕ
+noMultiple =
+    header 2 1 48 68 ++ count 1 4 0 ++ count 0 9 0 ++
+    0 ∷ 0 ∷ 1 ∷ 0 ∷ 3 ∷ 0 ∷ 0 ∷ 0 ∷ 251 ∷ 255 ∷ 255 ∷ 255 ∷ 0 ∷ 0 ∷ 0 ∷ 0 ∷ 0 ∷ 0 ∷ 0 ∷ 0 ∷ []
+
+-- ---- faulty jobs
+-- what follows the mark for n = 257
+abbrev tooMany : List ℕ
+tooMany = 1 ∷ 1 ∷ 0 ∷ 0 ∷ 24 ∷ 0 ∷ 0 ∷ 0 ∷ 36 ∷ 12 ∷ 0 ∷ 0 ∷ 36 ∷ 12 ∷ 0 ∷ 0 ∷ 0 ∷ 0 ∷ 0 ∷ 0 ∷ []
+
+-- 0..3, weight 1,000,001
+abbrev overweight : List ℕ
+overweight = 0 ∷ 0 ∷ 0 ∷ 0 ∷ 3 ∷ 0 ∷ 0 ∷ 0 ∷ 65 ∷ 66 ∷ 15 ∷ 0 ∷ []
+
+abbrev pub fitted : List Vector
+fitted =
+    filled narrowM (pos 150) narrowMSheet ∷
+    -- bytes past the sheet
+    filled narrowM (pos 150) (narrowMSheet ++ 220 ∷ 221 ∷ 222 ∷ 223 ∷ []) ∷
+    filled (header 0 0 24 24) (pos 0) emptySheet ∷
+    filled untied (pos 21) untiedSheet ∷
+    filled falling (pos 2) fallingSheet ∷
+    filled (ring 1) (pos 0) ringSheet ∷
+    filled (twice 0) (pos 0) twiceSheet ∷
+    filled (groups (equation 1 3 1 1 3)) (pos 6) groupsSheet ∷ []
+
+abbrev pub vectors : List Vector
+vectors =
+    fitted ++
+    untouched uneven 72 (noFit 0) ∷
+    untouched noMultiple 72 (noFit 0) ∷
+    -- the single candidate of the ring is 3½ and 1½
+    untouched (ring 2) 72 (noFit 0) ∷
+    untouched (twice 1) 72 (noFit 0) ∷
+    -- a low above its high
+    untouched (header 2 0 48 48 ++ count 0 3 0 ++ count 3 2 0) 88 (noFit 1) ∷
+    untouched (groups (equation 1 3 2 4 7)) 120 (noFit 1) ∷
+    -- an area one byte short, which stands before no fit
+    untouched narrowM 119 (refused 8 0) ∷
+    untouched uneven 71 (refused 8 0) ∷
+    -- every other reason stands before a short area, and before what comes later in the table
+    untouched [] 8 (refused 1 0) ∷
+    untouched (70 ∷ 73 ∷ 84 ∷ 50 ∷ tooMany) 8 (refused 2 0) ∷
+    untouched (70 ∷ 73 ∷ 84 ∷ 49 ∷ tooMany) 8 (refused 3 0) ∷
+    untouched (header 0 0 24 24 ++ 0 ∷ []) 8 (refused 4 0) ∷
+    untouched (header 2 1 48 68 ++ overweight ++ overweight ++ equation 1 1 1 1 0) 8 (refused 5 0) ∷
+    untouched (header 2 2 48 88 ++ count 0 3 0 ++ overweight ++ equation 1 1 1 1 0 ++ equation 0 1 1 1 3) 8 (refused 5 1) ∷
+    -- in the second equation both a count not below n and a = 0
+    untouched (header 2 2 48 88 ++ count 0 3 0 ++ count 0 3 0 ++ equation 0 1 1 1 3 ++ equation 0 2 0 1 3) 8 (refused 6 1) ∷
+    untouched (header 2 2 48 88 ++ count 0 3 0 ++ count 0 3 0 ++ equation 0 1 0 1 3 ++ equation 1 1 1 1 3) 8 (refused 7 0) ∷ []
+
+abbrev given : Vector → Verdict × List ℕ
+given v = (verdict (v .job) (v .area), sheet (v .job) (v .area))
+
+abbrev expected : Vector → Verdict × List ℕ
+expected v = (v .verdict, v .after)
+
+computed : map given vectors ≡ map expected vectors
+unfolding verdict sheet table
+computed = refl
+
+-- the definitions give what was worked out, at each of them
+pub worked : (v : Vector) → v ∈ vectors → (verdict (v .job) (v .area) ≡ v .verdict) × (sheet (v .job) (v .area) ≡ v .after)
+worked v h = let e = same-values given expected computed h in (ap (λ p. p .0) e, ap (λ p. p .1) e)
+
+-- ---- the demands' readings, tried on the same sheets: the numbers, the worth, and base + step·k of each group
+abbrev onSheet : Vector → List ℤ × (ℤ × List (List (List ℤ)))
+onSheet v =
+    let j = jobOf (v .job) in
+    (numbersOn j (v .after), (worthOn (v .after), map (λ l. table (memberOn j (v .after) (component j l)) (fitsOn j (v .after) (component j l))) (leads j)))
+
+abbrev defined : Vector → List ℤ × (ℤ × List (List (List ℤ)))
+defined v = let j = jobOf (v .job) in (best j, (objective j (best j), map (λ l. solutions (componentJob j l)) (leads j)))
+
+read-computed : map onSheet fitted ≡ map defined fitted
+unfolding verdict sheet table
+read-computed = refl
+
+pub read-off : (v : Vector) → v ∈ fitted → onSheet v ≡ defined v
+read-off v h = same-values onSheet defined read-computed h

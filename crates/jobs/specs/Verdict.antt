@@ -1,0 +1,38 @@
+-- Document 01, "The sheet": "The outcome is one of: planned, with the worth; no fit, with the lowest count of the first group
+-- that has no fit-out; refused, with a reason and a row." It is settled by the job's bytes and the area as lent.
+use mathlib.Core.Option.{Option, none, some}
+use mathlib.Core.List.{List}
+use Prim.Native.Nat.{ℕ}
+use lib.ListN.{length}
+use lib.IntN.{ℤ}
+use Rattle.reasons.specs.declared.Reason.{Reason}
+use Rattle.reasons.specs.Numbers.{numberOf, rowOf}
+use Rattle.jobs.specs.Decide.{below?, equal?, firstOf}
+use Rattle.jobs.specs.Job.{Job, jobOf}
+use Rattle.jobs.specs.Table.{ShortFor}
+use Rattle.jobs.specs.Faults.{firstBroken}
+use Rattle.jobs.specs.Solution.{objective, best}
+use Rattle.jobs.specs.Component.{leads, sheetLength}
+use Rattle.jobs.specs.Family.{componentJob, fits}
+
+pub data Verdict : Type 0 where
+  planned : ℤ → Verdict
+  noFit : ℕ → Verdict
+  refused : ℕ → ℕ → Verdict
+
+-- the lowest variable of the first group that has no solution
+unfoldable pub firstWithout : Job → Option ℕ
+unfolding firstOf fits componentJob leads
+firstWithout j = firstOf (λ l. equal? (fits (componentJob j l)) 0) (leads j)
+
+abbrev pub outcome : Job → Option Reason → Option ℕ → Verdict
+outcome j (some r) l = refused (numberOf r) (rowOf r)
+outcome j none (some l) = noFit l
+outcome j none none = planned (objective j (best j))
+
+abbrev pub shortFor? : (j : Job) (area : List ℕ) → Dec (ShortFor j area)
+shortFor? j area = below? (length area) (sheetLength j)
+
+unfoldable pub verdict : List ℕ → List ℕ → Verdict
+unfolding firstBroken firstWithout objective best jobOf leads
+verdict s area = outcome (jobOf s) (firstBroken (shortFor? (jobOf s) area) s) (firstWithout (jobOf s))
