@@ -6,6 +6,8 @@ use reasons::Reason;
 
 // little-endian numbers
 mod bytes;
+// the rows of variables and of equations
+mod rows;
 
 /// A variable's row, document 01's count row: its bounds and its weight.
 pub struct Variable {

@@ -1,0 +1,76 @@
+-- `Equation::read` meets its contract: field by field.
+use Rattle.jobs.proofs.Reading.{given}
+use borrow.Author.Needs.{needs}
+use Rattle.jobs.proofs.Equation.read.Statement.{statement}
+use Rattle.jobs.proofs.Equation.read.Tie as tie
+
+mul-at : tie.Need-mul-at
+mul-at c = search needs
+
+add-at : tie.Need-add-at
+add-at c = search needs
+
+mul-at-2 : tie.Need-mul-at-2
+mul-at-2 c = search needs
+
+add-at-2 : tie.Need-add-at-2
+add-at-2 c = search needs
+
+u16-at-requires : tie.Need-u16-at-requires
+u16-at-requires c κs = search needs
+
+add-u16-at : tie.Need-add-u16-at
+add-u16-at c = search needs
+
+u16-at-requires-2 : tie.Need-u16-at-requires-2
+u16-at-requires-2 c κs = search needs
+
+add-i32-at : tie.Need-add-i32-at
+add-i32-at c = search needs
+
+i32-at-requires : tie.Need-i32-at-requires
+i32-at-requires c κs = search needs
+
+add-i32-at-2 : tie.Need-add-i32-at-2
+add-i32-at-2 c = search needs
+
+i32-at-requires-2 : tie.Need-i32-at-requires-2
+i32-at-requires-2 c κs = search needs
+
+add-i64-at : tie.Need-add-i64-at
+add-i64-at c = search needs
+
+i64-at-requires : tie.Need-i64-at-requires
+i64-at-requires c κs = search needs
+
+returns : tie.Need-returns
+returns c =
+    let d = c .before in
+    let e = d .before in
+    let f = e .before in
+    λ i. record {
+      left = f .before .u16-at .ensures .same i;
+      right = f .u16-at2 .ensures .same i;
+      a = given (e .i32-at .ok) (e .i32-at .ensures) i;
+      b = given (d .i32-at2 .ok) (d .i32-at2 .ensures) i;
+      c = given (c .i64-at .ok) (c .i64-at .ensures) i;
+    }
+
+pub read-spec : {M : Type 1} → statement M
+read-spec =
+    tie.close
+    (tie.spec
+    mul-at
+    add-at
+    mul-at-2
+    add-at-2
+    u16-at-requires
+    add-u16-at
+    u16-at-requires-2
+    add-i32-at
+    i32-at-requires
+    add-i32-at-2
+    i32-at-requires-2
+    add-i64-at
+    i64-at-requires
+    returns)

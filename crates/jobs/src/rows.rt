@@ -1,0 +1,84 @@
+//! The rows of a job, read from its bytes and tested.
+
+ghost use mathlib.Core.Path.{_≡_};
+ghost use mathlib.Core.Bool.{true};
+ghost use mathlib.Core.Logic.{_↔_};
+ghost use Prim.Native.Nat.{_+_, _≤_, _<_};
+ghost use lib.ListN.{length};
+ghost use Rattle.jobs.specs.Job.{variableRow, variableAt, equationRow, equationFrom};
+ghost use Rattle.jobs.specs.Table.{InRange, Misnamed, Coefficients};
+use crate::Equation;
+use crate::Variable;
+use crate::bytes;
+
+impl Variable {
+    /// The row of variable i.
+    pub fn read(job: &[u8], i: usize) -> Variable
+        requires { ⌜ i < 65536 ⌝ }
+        requires { ⌜ variableRow (i + 1) ≤ length (now job) ⌝ }
+        ensures { λ r. ⌜ r ≡ variableAt (now (job .entry)) i ⌝ }
+    {
+        let at = 24 + 12 * i;
+        Variable {
+            low: bytes::i32_at(job, at),
+            high: bytes::i32_at(job, at + 4),
+            weight: bytes::i32_at(job, at + 8),
+        }
+    }
+
+    // Do the bounds and the weight lie in their ranges?
+    pub(crate) fn in_range(self) -> bool
+        ensures { λ r. ⌜ (r ≡ true) ↔ InRange self ⌝ }
+    {
+        if ints::is_within(1000000000, self.low) {
+            if ints::is_within(1000000000, self.high) {
+                return ints::is_within(1000000, self.weight);
+            }
+        }
+        false
+    }
+}
+
+impl Equation {
+    /// Row k of the equations, behind the rows of n variables.
+    pub fn read(job: &[u8], n: usize, k: usize) -> Equation
+        requires { ⌜ n < 65536 ⌝ }
+        requires { ⌜ k < 65536 ⌝ }
+        requires { ⌜ equationRow n (k + 1) ≤ length (now job) ⌝ }
+        ensures { λ r. ⌜ r ≡ equationFrom (now (job .entry)) (equationRow n k) ⌝ }
+    {
+        let at = 24 + 12 * n + 20 * k;
+        Equation {
+            left: bytes::u16_at(job, at) as usize,
+            right: bytes::u16_at(job, at + 2) as usize,
+            a: bytes::i32_at(job, at + 4),
+            b: bytes::i32_at(job, at + 8),
+            c: bytes::i64_at(job, at + 12),
+        }
+    }
+
+    // Does it name a variable that is not below n, or one variable twice?
+    pub(crate) fn is_misnamed(self, n: usize) -> bool
+        ensures { λ r. ⌜ (r ≡ true) ↔ Misnamed n self ⌝ }
+    {
+        if n <= self.left {
+            return true;
+        }
+        if n <= self.right {
+            return true;
+        }
+        self.left == self.right
+    }
+
+    // Are a, b and c within their limits?
+    pub(crate) fn in_limits(self) -> bool
+        ensures { λ r. ⌜ (r ≡ true) ↔ Coefficients self ⌝ }
+    {
+        let form = runs::Equation {
+            a: self.a,
+            b: self.b,
+            c: self.c,
+        };
+        form.in_limits()
+    }
+}
