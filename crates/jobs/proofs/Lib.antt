@@ -3,6 +3,8 @@
 
 -- numbers in bytes, as the code reads them
 pub mod Reading
+-- what a branch on a test says
+pub mod Branches
 -- the first member of a list of which a statement holds
 pub mod Firsts
 -- a reason is reported exactly when its rule is broken and none before it

@@ -8,6 +8,8 @@ use reasons::Reason;
 mod bytes;
 // the rows of variables and of equations
 mod rows;
+// the header
+pub mod header;
 
 /// A variable's row, document 01's count row: its bounds and its weight.
 pub struct Variable {
