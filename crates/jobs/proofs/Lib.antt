@@ -7,8 +7,12 @@ pub mod Reading
 pub mod Branches
 -- the first member of a list of which a statement holds
 pub mod Firsts
+-- a walk through the rows of a job
+pub mod Walks
 -- a reason is reported exactly when its rule is broken and none before it
 pub mod Faults
+-- what is known of a job that no check turns away
+pub mod Lawful
 -- the solutions of a job, in order, and the best of them
 pub mod Solutions
 -- groups: what joins variables, and how groups are numbered

@@ -2,6 +2,15 @@
 //!
 //! Read `specs/Lib.antt` for the definitions, then this file, then the modules from the bottom up.
 
+ghost use mathlib.Core.Path.{_≡_};
+ghost use mathlib.Core.List.{flatMap};
+ghost use Prim.Native.Nat.{_≤_};
+ghost use lib.ListN.{length};
+ghost use Rattle.lists.specs.Table.{table};
+ghost use Rattle.reasons.specs.declared.Reason.the-variants.{VariableRange};
+ghost use Rattle.jobs.specs.Job.{variableCount, variableRow, equationCount, equationRow};
+ghost use Rattle.jobs.specs.Decide.{firstOf};
+ghost use Rattle.jobs.specs.Faults.{broken?, noArea?, faultOf, answerOf, equationChecks, rowChecks, checked, ChecksExactly};
 use reasons::Reason;
 
 // little-endian numbers
@@ -31,4 +40,76 @@ pub struct Equation {
 pub enum Checked {
     Accepted,
     Refused(Reason),
+}
+
+/// The job check: accepted, or refused with the first failing check of document 01's table, reasons 1 to 7. Takes any bytes.
+pub fn check(job: &[u8]) -> Checked
+    ensures { λ r. ⌜ answerOf r ≡ checked (now (job .entry)) ⌝ }
+    ensures { λ r. ⌜ ChecksExactly (now (job .entry)) (answerOf r) ⌝ }
+{
+    let of_header = header::check(job);
+    match of_header {
+        Checked::Refused(reason) => Checked::Refused(reason),
+        Checked::Accepted => check_rows(job),
+    }
+}
+
+// The first fault of the rows, of reasons 5 to 7: all variables' rows come before the equations' rows.
+fn check_rows(job: &[u8]) -> Checked
+    requires { ⌜ variableCount (now job) ≤ 256 ⌝ }
+    requires { ⌜ equationCount (now job) ≤ 1024 ⌝ }
+    requires { ⌜ length (now job) ≡ equationRow (variableCount (now job)) (equationCount (now job)) ⌝ }
+    ensures { λ r. ⌜ faultOf r ≡ firstOf (broken? noArea? (now (job .entry))) (rowChecks (now (job .entry))) ⌝ }
+{
+    let n = header::variable_count(job);
+    let m = header::equation_count(job);
+    let of_variables = check_variables(job, n);
+    match of_variables {
+        Checked::Refused(reason) => Checked::Refused(reason),
+        Checked::Accepted => check_equations(job, n, m),
+    }
+}
+
+// The first of n variables whose row breaks a rule, or none.
+fn check_variables(job: &[u8], n: usize) -> Checked
+    requires { ⌜ n ≡ variableCount (now job) ⌝ }
+    requires { ⌜ n ≤ 256 ⌝ }
+    requires { ⌜ variableRow n ≤ length (now job) ⌝ }
+    ensures { λ r. ⌜ faultOf r ≡ firstOf (broken? noArea? (now (job .entry))) (table VariableRange n) ⌝ }
+{
+    let mut i: usize = 0;
+    loop {
+        if i == n {
+            break Checked::Accepted;
+        }
+        if !Variable::read(job, i).in_range() {
+            break Checked::Refused(Reason::VariableRange(i as u16));
+        }
+        i += 1;
+    }
+}
+
+// The first of m equations whose row breaks a rule, or none. In one row the variables come before the coefficients.
+fn check_equations(job: &[u8], n: usize, m: usize) -> Checked
+    requires { ⌜ n ≡ variableCount (now job) ⌝ }
+    requires { ⌜ n ≤ 256 ⌝ }
+    requires { ⌜ m ≡ equationCount (now job) ⌝ }
+    requires { ⌜ m ≤ 1024 ⌝ }
+    requires { ⌜ equationRow n m ≤ length (now job) ⌝ }
+    ensures { λ r. ⌜ faultOf r ≡ firstOf (broken? noArea? (now (job .entry))) (flatMap equationChecks (table (λ k. k) m)) ⌝ }
+{
+    let mut k: usize = 0;
+    loop {
+        if k == m {
+            break Checked::Accepted;
+        }
+        let e = Equation::read(job, n, k);
+        if e.is_misnamed(n) {
+            break Checked::Refused(Reason::EquationVariables(k as u16));
+        }
+        if !e.in_limits() {
+            break Checked::Refused(Reason::EquationRange(k as u16));
+        }
+        k += 1;
+    }
 }

@@ -1,0 +1,117 @@
+-- `check_equations` meets its contract: past each row that keeps its rules, what is left of the checks gives the same first fault.
+use denote.Ref.{now}
+use mathlib.Core.Path.{_≡_, sym, _∙_, ap, subst}
+use mathlib.Core.Logic.{_↔_}
+use mathlib.Core.Bool.{Bool, true, false, false≢true}
+use mathlib.Core.List.{List, flatMap}
+use Prim.Native.Nat.{ℕ, _-_, _≤_}
+use native.Mathlib.Omega.{arith}
+use Rattle.lists.specs.Table.{table}
+use Rattle.jobs.specs.Job.{Equation, variableCount, equationRow, equationFrom, equationAt}
+use Rattle.jobs.specs.Table.{Misnamed, Coefficients}
+use Rattle.jobs.specs.Decide.{firstOf}
+use Rattle.jobs.specs.Faults.{broken?, noArea?, equationChecks}
+use Rattle.jobs.proofs.Branches.{passed, failed}
+use Rattle.jobs.proofs.Walks.{ofEquations, equations-start, equations-end, names-here, range-here, equation-past}
+use Rattle.jobs.proofs.check_equations.Statement.{statement}
+use Rattle.jobs.proofs.check_equations.Tie as tie
+
+-- what the tests say of the row that was read, said of the row of the definition
+record Row (s : List ℕ) (n k : ℕ) (e : Equation) : Type 0 where
+  count : n ≡ variableCount s
+  read : e ≡ equationFrom s (equationRow n k)
+
+module _ {s : List ℕ} {n k : ℕ} {e : Equation} (r : Row s n k e) where
+  is-row : e ≡ equationAt s k
+  is-row = r .read ∙ ap (λ t. equationFrom s (equationRow t k)) (r .count)
+
+  misnamed : Misnamed n e → Misnamed (variableCount s) (equationAt s k)
+  misnamed h = subst (λ t. Misnamed t (equationAt s k)) (r .count) (subst (Misnamed n) is-row h)
+
+  named : {t : Bool} → (t ≡ true) ↔ Misnamed n e → t ≡ false → ¬ Misnamed (variableCount s) (equationAt s k)
+  named i f h = false≢true (sym f ∙ i .1 (subst (Misnamed n) (sym is-row) (subst (λ t. Misnamed t (equationAt s k)) (sym (r .count)) h)))
+
+abbrev Inv-loop : tie.InvT-loop
+Inv-loop job n m k₀ k = (k ≤ m) × (firstOf (broken? noArea? job) (flatMap equationChecks (table (λ i. i) m)) ≡ ofEquations job k m)
+
+abbrev μ-loop : tie.MeasureT-loop
+μ-loop job n m k₀ k = m - k
+
+abbrev bytes : tie.After-read Inv-loop μ-loop → List ℕ
+bytes d = now (d .before .before .before .before .args .job)
+
+row : (d : tie.After-read Inv-loop μ-loop) → Row (bytes d) (d .before .before .before .before .args .n) (d .before .before .loop .k) (d .read .result)
+row d = record { count = omega arith; read = d .read .ensures }
+
+well-named : (d : tie.After-in-limits Inv-loop μ-loop) → ¬ Misnamed (variableCount (bytes (d .before .before .before))) (equationAt (bytes (d .before .before .before)) (d .before .before .before .before .before .loop .k))
+well-named d = named (row (d .before .before .before)) (d .before .before .is-misnamed .ensures) (d .before .if2 .left)
+
+loop-holds : tie.Need-loop-holds Inv-loop μ-loop
+loop-holds c = (omega arith, equations-start (now (c .before .args .job)) (c .before .args .m))
+
+read-requires : tie.Need-read-requires Inv-loop μ-loop
+read-requires c κs = (omega arith, (omega arith, omega arith))
+
+is-misnamed-requires : tie.Need-is-misnamed-requires Inv-loop μ-loop
+is-misnamed-requires c κs = tt
+
+cast-t9 : tie.Need-cast-t9 Inv-loop μ-loop
+cast-t9 c = omega arith
+
+in-limits-requires : tie.Need-in-limits-requires Inv-loop μ-loop
+in-limits-requires c κs = tt
+
+cast-t12 : tie.Need-cast-t12 Inv-loop μ-loop
+cast-t12 c = omega arith
+
+add-k : tie.Need-add-k Inv-loop μ-loop
+add-k c = omega arith
+
+loop-less : tie.Need-loop-less Inv-loop μ-loop
+loop-less c = omega arith
+
+loop-again : tie.Need-loop-again Inv-loop μ-loop
+loop-again c =
+    let d = c .before in
+    let r = d .before .before .before in
+    let l = r .before .before .loop in
+    let sound = passed _ (d .in-limits .ensures) (c .if3 .left) in
+    (omega arith, l .inv .1 ∙ equation-past (bytes r) (l .k) _ (omega arith) (λ b. well-named d (b .1)) (λ b. b .1 (subst Coefficients (is-row (row r)) sound)))
+
+returns : tie.Need-returns Inv-loop μ-loop
+returns c =
+    let l = c .before .loop in
+    sym (l .inv .1 ∙ equations-end (now (c .before .before .before .args .job)) (l .k) _ (omega arith))
+
+returns-2 : tie.Need-returns-2 Inv-loop μ-loop
+returns-2 c =
+    let r = c .before .before in
+    let l = r .before .before .loop in
+    sym (l .inv .1 ∙ names-here (bytes r) (l .k) _ (omega arith) (omega arith, misnamed (row r) (c .before .is-misnamed .ensures .0 (c .if2 .taken))))
+
+returns-3 : tie.Need-returns-3 Inv-loop μ-loop
+returns-3 c =
+    let d = c .before in
+    let r = d .before .before .before in
+    let l = r .before .before .loop in
+    let out = failed _ (d .in-limits .ensures) (c .if3 .taken) in
+    sym (l .inv .1 ∙ range-here (bytes r) (l .k) _ (omega arith) (λ b. well-named d (b .1)) (omega arith, λ h. out (subst Coefficients (sym (is-row (row r))) h)))
+
+pub check-equations-spec : {M : Type 1} → statement M
+check-equations-spec =
+    tie.close
+    (tie.spec
+    Inv-loop
+    μ-loop
+    loop-holds
+    read-requires
+    is-misnamed-requires
+    cast-t9
+    in-limits-requires
+    cast-t12
+    add-k
+    loop-less
+    loop-again
+    returns
+    returns-2
+    returns-3)
