@@ -17,3 +17,11 @@ pub mod Lawful
 pub mod Solutions
 -- groups: what joins variables, and how groups are numbered
 pub mod Components
+-- from groups to the whole job and back
+pub mod Assembly
+-- numbers written in bytes read back
+pub mod Writing
+-- where the fields of a sheet stand
+pub mod Fields
+-- the definitions keep the demands, as far as that needs no families
+pub mod Promises

@@ -1,0 +1,181 @@
+-- What the definitions `verdict` and `sheet` keep of the demands: the first and the third, and "no fit" of the second.
+use mathlib.Core.Path.{_≡_, refl, sym, _∙_, ap, ap₂, subst}
+use mathlib.Core.Logic.{_↔_}
+use mathlib.Core.Option.{Option, none, some}
+use mathlib.Core.List.{List, [], _++_}
+use Prim.Native.Nat.{ℕ, _*_, _≤_, _<_}
+use lib.ListN.{length, drop}
+use Rattle.reasons.specs.declared.Reason.{Reason}
+use Rattle.reasons.specs.declared.Reason.the-variants.{ShortArea}
+use Rattle.reasons.specs.Numbers.{numberOf, rowOf}
+use Rattle.ints.specs.Within.{Within}
+use Rattle.ints.proofs.{ℤ, pos, _*ℤ_, _∷_, arith, lin, _&_, facts, within-mul}
+use Rattle.lists.specs.Members.{_∈_}
+use Rattle.lists.proofs.Places.{same-places}
+use Rattle.lists.proofs.Table.{length-table, table-at}
+use Rattle.lists.proofs.Sums.{sum-within}
+use Rattle.runs.specs.Run.{bound}
+use Rattle.jobs.specs.Job.{Job, jobOf, variable}
+use Rattle.jobs.specs.Solution.{number, IsSolution, objective, best}
+use Rattle.jobs.specs.Component.{leads, sheetLength}
+use Rattle.jobs.specs.Family.{componentJob}
+use Rattle.jobs.specs.Table.{ShortFor, IsFirst}
+use Rattle.jobs.specs.Faults.{firstBroken}
+use Rattle.jobs.specs.Verdict.{Verdict, planned, noFit, refused, firstWithout, outcome, shortFor?, verdict}
+use Rattle.jobs.specs.Sheet.{laidOut, sheet}
+use Rattle.jobs.specs.Demands.{worthOn, numberOn, numbersOn, TurnsAway, NoneFits, Optimal, CannotBeBettered}
+use Rattle.jobs.proofs.Faults.{reported-iff, sound-iff}
+use Rattle.jobs.proofs.Lawful.{LawfulJob, lawful-member, lawful, lawful-job}
+use Rattle.jobs.proofs.Writing.{within-holds}
+use Rattle.jobs.proofs.Fields.{number-back, worth-back, if-planned, if-noFit, if-refused, length-sheet, drop-sheet}
+use Rattle.jobs.proofs.Solutions.{best-is}
+use Rattle.jobs.proofs.Assembly.{some-iff, fits-iff, fits-some, all-fit, without-iff}
+
+-- ---- what is behind each verdict
+-- a case of a verdict is no other case, and says what it says
+abbrev IsPlanned : Verdict → ℤ → Type 0
+IsPlanned (planned w) z = w ≡ z
+IsPlanned (noFit l) z = ⊥
+IsPlanned (refused reason row) z = ⊥
+
+abbrev IsNoFit : Verdict → ℕ → Type 0
+IsNoFit (planned w) k = ⊥
+IsNoFit (noFit l) k = l ≡ k
+IsNoFit (refused reason row) k = ⊥
+
+abbrev IsRefused : Verdict → ℕ → ℕ → Type 0
+IsRefused (planned w) p q = ⊥
+IsRefused (noFit l) p q = ⊥
+IsRefused (refused reason row) p q = (reason ≡ p) × (row ≡ q)
+
+module _ (j : Job) where
+  was-planned : (o : Option Reason) (k : Option ℕ) (w : ℤ) → IsPlanned (outcome j o k) w → (o ≡ none) × ((k ≡ none) × (objective j (best j) ≡ w))
+  was-planned none none w e = (refl, (refl, e))
+  was-planned none (some l) w e = absurd e
+  was-planned (some r) k w e = absurd e
+
+  was-noFit : (o : Option Reason) (k : Option ℕ) (l : ℕ) → IsNoFit (outcome j o k) l → (o ≡ none) × (k ≡ some l)
+  was-noFit none none l e = absurd e
+  was-noFit none (some i) l e = (refl, ap some e)
+  was-noFit (some r) k l e = absurd e
+
+  was-refused : (o : Option Reason) (k : Option ℕ) (p q : ℕ) → IsRefused (outcome j o k) p q → (r : Reason) × ((o ≡ some r) × ((numberOf r ≡ p) × (rowOf r ≡ q)))
+  was-refused none none p q e = absurd e
+  was-refused none (some l) p q e = absurd e
+  was-refused (some r) k p q e = (r, (refl, e))
+
+-- ---- a job that no check turns away
+module _ (j : Job) (f : LawfulJob j) where
+  -- it has a solution exactly when each group has one
+  groups-iff : ((x : List ℤ) × IsSolution j x) ↔ ((l : ℕ) → l ∈ leads j → (x : List ℤ) × IsSolution (componentJob j l) x)
+  groups-iff = some-iff j (λ e m. let h = lawful-member f e m in (h .left, h .right))
+
+  -- so where no group is without one, the best is one
+  optimal-best : firstWithout j ≡ none → Optimal j (best j)
+  optimal-best e = let (x, s) = groups-iff .1 (all-fit j e) in let (b, g) = best-is j x s in record { solution = b; best = g }
+
+  none-fits : (l : ℕ) → firstWithout j ≡ some l → NoneFits j l
+  none-fits l e = let (m, h) = without-iff j l .0 e in let (z, b) = h in record {
+    none = λ x s. let (y, t) = groups-iff .0 (x, s) l m in fits-iff (componentJob j l) .0 z y t;
+    group = m;
+    without = fits-iff (componentJob j l) .0 z;
+    first = λ i k h. fits-some (componentJob j i) (b i k h);
+  }
+
+  -- the numbers and the worth of a solution fit their fields
+  module _ (x : List ℤ) (s : IsSolution j x) where
+    number-within : (i : ℕ) → i < length (j .variables) → Within bound (number x i)
+    number-within i h =
+        let v = f .each-variable i h in
+        lin (variable j i .low ∷ variable j i .high ∷ number x i ∷ []) (v .low & v .high & s .low i h & s .high i h) (search facts depth 20) (omega arith)
+
+    objective-within : Within (length (j .variables) * (1000000 * bound)) (objective j x)
+    unfolding objective
+    objective-within =
+        sum-within (length (j .variables)) (1000000 * bound) (λ i. variable j i .weight *ℤ number x i)
+        (λ i h. within-mul (f .each-variable i h .weight) (number-within i h))
+
+    -- and read back
+    numbers-back : (w : ℤ) (rest : List ℕ) → numbersOn j (laidOut j x w ++ rest) ≡ x
+    numbers-back w rest = same-places (pos 0) (numbersOn j (laidOut j x w ++ rest)) x (long ∙ sym (s .long)) (λ i h. at i (omega (arith, long)))
+      where
+        long : length (numbersOn j (laidOut j x w ++ rest)) ≡ length (j .variables)
+        long = length-table (numberOn (laidOut j x w ++ rest)) (length (j .variables))
+
+        at : (i : ℕ) → i < length (j .variables) → number (numbersOn j (laidOut j x w ++ rest)) i ≡ number x i
+        at i h = table-at (numberOn (laidOut j x w ++ rest)) (length (j .variables)) i (pos 0) h ∙ number-back j x w rest i h (number-within i h)
+
+    objective-back : (rest : List ℕ) → worthOn (laidOut j x (objective j x) ++ rest) ≡ objective j x
+    objective-back rest = worth-back j x (objective j x) rest (within-holds 8 (length (j .variables) * (1000000 * bound)) (objective j x) (omega (arith, f .variables)) objective-within)
+
+module _ (s area : List ℕ) where
+  abbrev fault : Option Reason
+  fault = firstBroken (shortFor? (jobOf s) area) s
+
+  verdict-is : verdict s area ≡ outcome (jobOf s) fault (firstWithout (jobOf s))
+  unfolding verdict
+  verdict-is = refl
+
+  planned-when : (w : ℤ) → verdict s area ≡ planned w → (fault ≡ none) × ((firstWithout (jobOf s) ≡ none) × (objective (jobOf s) (best (jobOf s)) ≡ w))
+  planned-when w e = was-planned (jobOf s) fault (firstWithout (jobOf s)) w (subst (λ v. IsPlanned v w) (sym e ∙ verdict-is) refl)
+
+  noFit-when : (l : ℕ) → verdict s area ≡ noFit l → (fault ≡ none) × (firstWithout (jobOf s) ≡ some l)
+  noFit-when l e = was-noFit (jobOf s) fault (firstWithout (jobOf s)) l (subst (λ v. IsNoFit v l) (sym e ∙ verdict-is) refl)
+
+  refused-when : (p q : ℕ) → verdict s area ≡ refused p q → (r : Reason) × ((fault ≡ some r) × ((numberOf r ≡ p) × (rowOf r ≡ q)))
+  refused-when p q e = was-refused (jobOf s) fault (firstWithout (jobOf s)) p q (subst (λ v. IsRefused v p q) (sym e ∙ verdict-is) (refl, refl))
+
+  -- ---- the first demand
+  pub turns-away : TurnsAway s area (verdict s area) (sheet s area)
+  turns-away = record {
+    exactly = λ p q. (to p q, from p q);
+    untouched = λ p q e. if-refused s area e;
+    inside = length-sheet s area long;
+    rest = drop-sheet s area;
+  }
+    where
+      to : (p q : ℕ) → verdict s area ≡ refused p q → (r : Reason) × ((numberOf r ≡ p) × ((rowOf r ≡ q) × IsFirst (ShortFor (jobOf s) area) s r))
+      to p q e = let (r, h) = refused-when p q e in (r, (h .1 .0, (h .1 .1, reported-iff s (shortFor? (jobOf s) area) r .0 (h .0))))
+
+      from : (p q : ℕ) → (r : Reason) × ((numberOf r ≡ p) × ((rowOf r ≡ q) × IsFirst (ShortFor (jobOf s) area) s r)) → verdict s area ≡ refused p q
+      from p q (r, h) =
+          verdict-is
+          ∙ ap (λ o. outcome (jobOf s) o (firstWithout (jobOf s))) (reported-iff s (shortFor? (jobOf s) area) r .1 (h .1 .1))
+          ∙ ap₂ refused (h .0) (h .1 .0)
+
+      long : (w : ℤ) → verdict s area ≡ planned w → sheetLength (jobOf s) ≤ length area
+      long w e = let h : ¬ (length area < sheetLength (jobOf s)) = sound-iff s (shortFor? (jobOf s) area) .0 (planned-when w e .0) ShortArea in omega arith
+
+  -- ---- the third demand
+  lawful-of : fault ≡ none → LawfulJob (jobOf s)
+  lawful-of e = lawful-job s (lawful (shortFor? (jobOf s) area) s e)
+
+  module _ (w : ℤ) (e : verdict s area ≡ planned w) where
+    optimal-of : Optimal (jobOf s) (best (jobOf s))
+    optimal-of = let (o, h) = planned-when w e in optimal-best (jobOf s) (lawful-of o) (h .0)
+
+    -- what stands on the sheet
+    numbers-of : numbersOn (jobOf s) (sheet s area) ≡ best (jobOf s)
+    numbers-of =
+        ap (numbersOn (jobOf s)) (if-planned s area e)
+        ∙ numbers-back (jobOf s) (lawful-of (planned-when w e .0)) (best (jobOf s)) (optimal-of .solution) w (drop (sheetLength (jobOf s)) area)
+
+    worth-of : worthOn (sheet s area) ≡ w
+    worth-of =
+        let rest = drop (sheetLength (jobOf s)) area in
+        let q : objective (jobOf s) (best (jobOf s)) ≡ w = planned-when w e .1 .1 in
+        ap worthOn (if-planned s area e)
+        ∙ ap (λ z. worthOn (laidOut (jobOf s) (best (jobOf s)) z ++ rest)) (sym q)
+        ∙ objective-back (jobOf s) (lawful-of (planned-when w e .0)) (best (jobOf s)) (optimal-of .solution) rest
+        ∙ q
+
+  pub cannot-be-bettered : CannotBeBettered s area (verdict s area) (sheet s area)
+  cannot-be-bettered = record {
+    optimal = λ w e. subst (Optimal (jobOf s)) (sym (numbers-of w e)) (optimal-of w e);
+    worth = λ w e. sym (planned-when w e .1 .1) ∙ ap (objective (jobOf s)) (sym (numbers-of w e));
+    shown = worth-of;
+  }
+
+  -- ---- of the second: "no fit" only when there is none
+  pub no-fit-only : (l : ℕ) → verdict s area ≡ noFit l → NoneFits (jobOf s) l × (sheet s area ≡ area)
+  no-fit-only l e = let (o, h) = noFit-when l e in (none-fits (jobOf s) (lawful-of o) l h, if-noFit s area e)
