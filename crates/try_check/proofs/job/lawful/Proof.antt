@@ -1,0 +1,50 @@
+-- `try_check::job::lawful` meets its contract.
+use Prim.Native.Nat.{_-_, _≤_}
+use borrow.Author.Needs.{needs}
+use Rattle.try_check.proofs.job.lawful.Statement.{statement}
+use Rattle.try_check.proofs.job.lawful.Tie as tie
+
+abbrev Inv-loop : tie.InvT-loop
+Inv-loop b₀ n m i₀ b i = i ≤ n
+
+abbrev μ-loop : tie.MeasureT-loop
+μ-loop b₀ n m i₀ b i = n - i
+
+header-requires : tie.Need-header-requires Inv-loop μ-loop
+header-requires c κs = search needs
+
+loop-holds : tie.Need-loop-holds Inv-loop μ-loop
+loop-holds c = search needs
+
+variable-requires : tie.Need-variable-requires Inv-loop μ-loop
+variable-requires c κs = search needs
+
+add-i : tie.Need-add-i Inv-loop μ-loop
+add-i c = search needs
+
+loop-less : tie.Need-loop-less Inv-loop μ-loop
+loop-less c = search needs
+
+loop-again : tie.Need-loop-again Inv-loop μ-loop
+loop-again c = search needs
+
+equations-requires : tie.Need-equations-requires Inv-loop μ-loop
+equations-requires c κs = search needs
+
+returns : tie.Need-returns Inv-loop μ-loop
+returns c = search needs
+
+pub lawful-spec : {M : Type 1} → statement M
+lawful-spec =
+    tie.close
+    (tie.spec
+    Inv-loop
+    μ-loop
+    header-requires
+    loop-holds
+    variable-requires
+    add-i
+    loop-less
+    loop-again
+    equations-requires
+    returns)
