@@ -1,10 +1,10 @@
--- The members of a kept list, that it rises with the list, and how long it is where those below a member are kept; what the
--- tests of all members and of any say.
+-- The members of a kept list, that it rises with the list and is no longer, and how long it is where those below a member are
+-- kept; what the tests of all members and of any say.
 use mathlib.Core.Path.{_≡_, refl, sym, _∙_, ap}
 use mathlib.Core.Logic.{_↔_, _⊎_, inl, inr, ⊎-elim}
 use mathlib.Core.Bool.{Bool, true, false, cond, _||_, false≢true, and-eq-true-iff}
 use mathlib.Core.List.{List, [], _∷_}
-use Prim.Native.Nat.{ℕ, zero, suc, _<_}
+use Prim.Native.Nat.{ℕ, zero, suc, _≤_, _<_}
 use native.Mathlib.Omega.{arith}
 use lib.Dec.{ltb}
 use lib.ListN.{length, getD}
@@ -49,6 +49,15 @@ module _ {A : Type 0} (p : A → Bool) where
   unfolding keep
   rising-keep none = none
   rising-keep (more {x} {xs} f r) = cond-rising (p x) x (λ y h. f y (keep-out xs h .0)) (rising-keep r)
+
+  cond-length : (b : Bool) (x : A) (ks : List A) {n : ℕ} → length ks ≤ n → length (cond b (x ∷ ks) ks) ≤ suc n
+  cond-length true x ks h = omega arith
+  cond-length false x ks h = omega arith
+
+  pub length-keep : (xs : List A) → length (keep p xs) ≤ length xs
+  unfolding keep
+  length-keep [] = omega arith
+  length-keep (x ∷ xs) = cond-length (p x) x (keep p xs) (length-keep xs)
 
   pub keep-none : (xs : List A) → ((z : A) → z ∈ xs → p z ≡ false) → keep p xs ≡ []
   unfolding keep

@@ -1,4 +1,4 @@
--- The laws of the definitions in specs/: a file for each, in the same order.
+-- The laws of the definitions in specs/, in the order in which they rest on each other.
 
 -- members by their places, and of ++, map and flatMap
 pub mod Members

@@ -1,7 +1,8 @@
--- The one lemma of this crate: two rising lists with the same members are equal. And lists that rise by how they are made.
+-- Rising lists: two with the same members are equal, which is the one lemma that later crates rest on; and lists that rise by how
+-- they are made.
 use mathlib.Core.Path.{_≡_, refl, sym, _∙_, ap₂}
 use mathlib.Core.Logic.{_↔_, ⊎-elim}
-use mathlib.Core.List.{List, _∷_, _++_, map, flatMap, List·Memᴰ·not-nil}
+use mathlib.Core.List.{List, [], _∷_, _++_, map, flatMap, List·Memᴰ·not-nil}
 use Rattle.lists.specs.Members.{_∈_, here, there}
 use Rattle.lists.specs.Rising.{Rising, none, more}
 use Rattle.lists.proofs.Members.{in-append, in-map, in-flatMap}
@@ -28,7 +29,10 @@ module _ {A : Type 0} {R : A → A → Type 0} (asym : (x y : A) → R x y → R
       e : x ≡ y
       e = head f g (m x .0 (here refl)) (m y .1 (here refl))
 
--- ---- lists made by ++, map and flatMap
+-- ---- lists of one member, and made by ++, map and flatMap
+pub rising-one : {A : Type 0} {R : A → A → Type 0} (x : A) → Rising R (x ∷ [])
+rising-one x = more (λ y m. absurd (List·Memᴰ·not-nil m)) none
+
 pub rising-append : {A : Type 0} {R : A → A → Type 0} {xs ys : List A} → Rising R xs → Rising R ys →
     ((x y : A) → x ∈ xs → y ∈ ys → R x y) → Rising R (xs ++ ys)
 rising-append none s m = s

@@ -1,4 +1,4 @@
--- The members of a table, that it rises where f does, its length, and what stands at each place.
+-- The members of a table, that it rises where f does, its length, and what stands at each place; and of 0, 1, .., n − 1.
 use mathlib.Core.Path.{_≡_, refl, _∙_, ap}
 use mathlib.Core.Logic.{_↔_}
 use Prim.Native.Nat.{ℕ, zero, suc, _+_, _-_, _≤_, _<_}
@@ -8,7 +8,7 @@ use native.Mathlib.Omega.{arith}
 use lib.ListN.{length, getD}
 use Rattle.lists.specs.Members.{_∈_, here, there}
 use Rattle.lists.specs.Rising.{Rising, none, more}
-use Rattle.lists.specs.Table.{tableFrom, table}
+use Rattle.lists.specs.Table.{tableFrom, table, upTo}
 
 module _ {A : Type 0} (f : ℕ → A) where
   from-out : (i n : ℕ) {z : A} → z ∈ tableFrom f i n → (k : ℕ) × (i ≤ k) × (k < i + n) × (z ≡ f k)
@@ -74,3 +74,12 @@ module _ {A : Type 0} (f : ℕ → A) where
   pub from-start : (n : ℕ) → table f n ≡ tableFrom f 0 (n - 0)
   unfolding table
   from-start n = let q : n ≡ n - 0 = omega arith in ap (tableFrom f 0) q
+
+pub in-upTo : (n k : ℕ) → k ∈ upTo n ↔ (k < n)
+in-upTo n k = (λ h. let (i, l, e) = in-table (λ i. i) n k .0 h in omega arith, λ h. in-table (λ i. i) n k .1 (k, h, refl))
+
+pub rising-upTo : (n : ℕ) → Rising _<_ (upTo n)
+rising-upTo n = rising-table (λ i. i) n (λ j k h l. h)
+
+pub length-upTo : (n : ℕ) → length (upTo n) ≡ n
+length-upTo = length-table (λ i. i)

@@ -10,3 +10,7 @@ tableFrom f i (suc n) = let rest = tableFrom f (suc i) n in f i ∷ rest
 unfoldable pub table : {A : Type 0} → (ℕ → A) → ℕ → List A
 unfolding tableFrom
 table f n = tableFrom f 0 n
+
+-- 0, 1, .., n − 1
+abbrev pub upTo : ℕ → List ℕ
+upTo n = table (λ i. i) n

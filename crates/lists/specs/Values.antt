@@ -5,7 +5,7 @@ use Prim.Native.Nat.{_*_, _%_}
 use lib.Signed.{leZ}
 use mathlib.Core.List.{[], _∷_}
 use lib.IntN.{pos, negsuc, _*ℤ_}
-use Rattle.lists.specs.Keep.{keep, every, any}
+use Rattle.lists.specs.Keep.{keep, every, any, place}
 use Rattle.lists.specs.Table.{table}
 use Rattle.lists.specs.Range.{range}
 use Rattle.lists.specs.Lexicographic.{Lower, now, later}
@@ -27,6 +27,11 @@ kept = refl
 tested : (every (λ x. leZ x (pos 1)) (range (negsuc 1) (pos 1)) ≡ true) × (any (λ x. leZ (pos 1) x) (range (negsuc 1) (pos 0)) ≡ false)
 unfolding every any range
 tested = (refl, refl)
+
+-- two members come before the first that is above 0
+placed : place (λ x. leZ (pos 1) x) (range (negsuc 0) (pos 2)) ≡ 2
+unfolding place range
+placed = refl
 
 -- 2 and −2 have the greatest square, and −2 comes first
 bests : bestOf (λ x. x *ℤ x) (pos 0) (range (negsuc 1) (pos 2)) ≡ negsuc 1
