@@ -26,12 +26,12 @@ use Rattle.jobs.specs.Decide.{equal?}
 use Rattle.jobs.specs.Verdict.{firstWithout}
 use Rattle.jobs.proofs.Firsts.{first-iff, none-holds}
 use Rattle.jobs.proofs.Solutions.{in-solutions, none-iff, best-is}
-use Rattle.jobs.proofs.Components.{chain-tie, joined-iff, rising-leads, lead-in}
+use Rattle.jobs.proofs.Components.{chain-edge, joined-iff, rising-leads, lead-in}
 
 -- every equation holds, by places and by members
-ties-iff : (es : List Equation) (x : List ℤ) →
+holds-iff : (es : List Equation) (x : List ℤ) →
     ((k : ℕ) → k < length es → value (getD es k noEquation) x ≡ getD es k noEquation .c) ↔ ((e : Equation) → e ∈ es → value e x ≡ e .c)
-ties-iff es x = each-iff (λ e. value e x ≡ e .c) es noEquation
+holds-iff es x = each-iff (λ e. value e x ≡ e .c) es noEquation
 
 -- lists that give the same to the two variables of an equation
 same-value : (e : Equation) (x y : List ℤ) → number x (e .left) ≡ number y (e .left) → number x (e .right) ≡ number y (e .right) → value e x ≡ value e y
@@ -74,7 +74,7 @@ module _ (j : Job) where
   one-group = each-iff (λ e. lowest j (e .left) ≡ lowest j (e .right)) (j .equations) noEquation .0 tied
     where
       tied : (k : ℕ) → k < length (j .equations) → lowest j (equation j k .left) ≡ lowest j (equation j k .right)
-      tied k h = joined-iff j (equation j k .left) (equation j k .right) .0 (chain-tie k h (forth refl refl))
+      tied k h = joined-iff j (equation j k .left) (equation j k .right) .0 (chain-edge k h (forth refl refl))
 
   -- the part of a list that belongs to the group of l, and 0 elsewhere
   abbrev pub partOf : ℕ → List ℤ → List ℤ
@@ -104,7 +104,7 @@ module _ (j : Job) where
       long = length-table _ (length (j .variables)) ∙ sym (component-length l);
       low = λ i h. within i (omega (arith, component-length l)) .0;
       high = λ i h. within i (omega (arith, component-length l)) .1;
-      ties = ties-iff (componentJob j l .equations) (partOf l x) .1 (λ e m. tie e (in-equations l e .0 m));
+      holds = holds-iff (componentJob j l .equations) (partOf l x) .1 (λ e m. tie e (in-equations l e .0 m));
     }
       where
         within : (i : ℕ) → i < length (j .variables) → Between (variable (componentJob j l) i) (number (partOf l x) i)
@@ -117,7 +117,7 @@ module _ (j : Job) where
         tie : (e : Equation) → (e ∈ j .equations) × (lowest j (e .left) ≡ l) → value e (partOf l x) ≡ e .c
         tie e (m, q) =
             same-value e (partOf l x) x (part-inside l x (e .left) (named e m .0) q) (part-inside l x (e .right) (named e m .1) (sym (one-group e m) ∙ q))
-            ∙ ties-iff (j .equations) x .0 (s .ties) e m
+            ∙ holds-iff (j .equations) x .0 (s .holds) e m
 
     -- solutions of all the groups make one of the job
     pub assembled-solution : (f : ℕ → List ℤ) → ((l : ℕ) → l ∈ leads j → IsSolution (componentJob j l) (f l)) → IsSolution j (assembled f)
@@ -125,7 +125,7 @@ module _ (j : Job) where
       long = length-table _ (length (j .variables));
       low = λ i h. within i h .0;
       high = λ i h. within i h .1;
-      ties = ties-iff (j .equations) (assembled f) .1 tie;
+      holds = holds-iff (j .equations) (assembled f) .1 tie;
     }
       where
         within : (i : ℕ) → i < length (j .variables) → Between (variable j i) (number (assembled f) i)
@@ -139,12 +139,12 @@ module _ (j : Job) where
             let l = lowest j (e .left) in
             let (a, b) = named e m in
             same-value e (assembled f) (f l) (assembled-at f (e .left) a) (assembled-at f (e .right) b ∙ ap (λ l. number (f l) (e .right)) (sym (one-group e m)))
-            ∙ ties-iff (componentJob j l .equations) (f l) .0 (each l (lead-in j (e .left) a) .ties) e (in-equations l e .1 (m, refl))
+            ∙ holds-iff (componentJob j l .equations) (f l) .0 (each l (lead-in j (e .left) a) .holds) e (in-equations l e .1 (m, refl))
 
     pub some-iff : ((x : List ℤ) × IsSolution j x) ↔ ((l : ℕ) → l ∈ leads j → (x : List ℤ) × IsSolution (componentJob j l) x)
     some-iff = (
       λ (x, s) l m. (partOf l x, part-solution l x s),
-      λ f. (assembled (λ l. best (componentJob j l)), assembled-solution (λ l. best (componentJob j l)) (λ l m. let (x, s) = f l m in best-is (componentJob j l) x s .0)),
+      λ f. (assembled (λ l. best (componentJob j l)), assembled-solution (λ l. best (componentJob j l)) (λ l m. let (x, s) = f l m in best-is (componentJob j l) x s .solution)),
     )
 
 -- ---- the first group without a solution

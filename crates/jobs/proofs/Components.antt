@@ -11,12 +11,12 @@ use lib.ListN.{length, getD}
 use borrow.Author.Tests.{eqb-true, eq-eqb, ne-eqb}
 use Rattle.lists.specs.Members.{_∈_}
 use Rattle.lists.specs.Rising.{Rising}
-use Rattle.lists.specs.Table.{table}
+use Rattle.lists.specs.Table.{upTo}
 use Rattle.lists.proofs.Members.{member-at, place-of}
-use Rattle.lists.proofs.Keep.{in-keep, rising-keep, rank-at}
-use Rattle.lists.proofs.Table.{in-table, rising-table}
+use Rattle.lists.proofs.Keep.{in-keep, rising-keep, length-keep, rank-at}
+use Rattle.lists.proofs.Table.{in-upTo, rising-upTo, length-upTo}
 use Rattle.jobs.specs.Job.{Equation, Job, equation}
-use Rattle.jobs.specs.Component.{Ties, forth, back, Chain, stay, onward, Joined, merged, lowestBy, lowest, leads, componentCount, component}
+use Rattle.jobs.specs.Component.{Connects, forth, back, Chain, stay, onward, Joined, merged, lowestBy, lowest, leads, componentCount, component}
 
 -- ---- chains of equations
 module _ {j : Job} where
@@ -28,14 +28,14 @@ module _ {j : Job} where
   chain-then s (stay e) = rw e at s
   chain-then s (onward k h t u) = onward k h (chain-then s t) u
 
-  pub chain-tie : {m p q : ℕ} (k : ℕ) → k < m → Ties (equation j k) p q → Chain j m p q
-  chain-tie k h t = onward k h (stay refl) t
+  pub chain-edge : {m p q : ℕ} (k : ℕ) → k < m → Connects (equation j k) p q → Chain j m p q
+  chain-edge k h t = onward k h (stay refl) t
 
   pub chain-back : {m p q : ℕ} → Chain j m p q → Chain j m q p
   chain-back (stay e) = stay (sym e)
-  chain-back (onward k h s t) = chain-then (chain-tie k h (turn t)) (chain-back s)
+  chain-back (onward k h s t) = chain-then (chain-edge k h (turn t)) (chain-back s)
     where
-      turn : {e : Equation} {p q : ℕ} → Ties e p q → Ties e q p
+      turn : {e : Equation} {p q : ℕ} → Connects e p q → Connects e q p
       turn (forth a b) = back a b
       turn (back a b) = forth a b
 
@@ -102,7 +102,7 @@ module _ (j : Job) where
 
       across : ((i : ℕ) → Chain j m i (lowestBy j m i)) → Chain j (suc m) (left m) (right m)
       across to =
-          chain-then (chain-back (longer (to (equation j m .left)))) (chain-then (chain-tie m (omega arith) (forth refl refl)) (longer (to (equation j m .right))))
+          chain-then (chain-back (longer (to (equation j m .left)))) (chain-then (chain-edge m (omega arith) (forth refl refl)) (longer (to (equation j m .right))))
 
   -- each of these equations ties two variables of one group
   tied : (m k : ℕ) → k < m → lowestBy j m (equation j k .left) ≡ lowestBy j m (equation j k .right)
@@ -120,7 +120,7 @@ module _ (j : Job) where
   chain-same {m} (stay e) = ap (lowestBy j m) e
   chain-same {m} (onward {q} {r} k h s t) = chain-same s ∙ step t
     where
-      step : Ties (equation j k) q r → lowestBy j m q ≡ lowestBy j m r
+      step : Connects (equation j k) q r → lowestBy j m q ≡ lowestBy j m r
       step (forth a b) = ap (lowestBy j m) (sym a) ∙ tied m k h ∙ ap (lowestBy j m) b
       step (back a b) = ap (lowestBy j m) (sym b) ∙ sym (tied m k h) ∙ ap (lowestBy j m) a
 
@@ -161,17 +161,22 @@ module _ (j : Job) where
   -- ---- groups, numbered in the order of their lowest variable
   pub in-leads : (l : ℕ) → (l ∈ leads j) ↔ ((l < length (j .variables)) × (lowest j l ≡ l))
   unfolding leads
-  in-leads l = Iff·trans (in-keep (λ i. eqb (lowest j i) i) (table (λ i. i) (length (j .variables))) l) (to, from)
+  in-leads l = Iff·trans (in-keep (λ i. eqb (lowest j i) i) (upTo (length (j .variables))) l) (to, from)
     where
-      to : (l ∈ table (λ i. i) (length (j .variables))) × (eqb (lowest j l) l ≡ true) → (l < length (j .variables)) × (lowest j l ≡ l)
-      to (h, t) = let (k, b, e) = in-table (λ i. i) (length (j .variables)) l .0 h in (omega (arith, b, e), eqb-true (lowest j l) l t)
+      to : (l ∈ upTo (length (j .variables))) × (eqb (lowest j l) l ≡ true) → (l < length (j .variables)) × (lowest j l ≡ l)
+      to (h, t) = (in-upTo (length (j .variables)) l .0 h, eqb-true (lowest j l) l t)
 
-      from : (l < length (j .variables)) × (lowest j l ≡ l) → (l ∈ table (λ i. i) (length (j .variables))) × (eqb (lowest j l) l ≡ true)
-      from (b, e) = (in-table (λ i. i) (length (j .variables)) l .1 (l, b, refl), eq-eqb (lowest j l) l e)
+      from : (l < length (j .variables)) × (lowest j l ≡ l) → (l ∈ upTo (length (j .variables))) × (eqb (lowest j l) l ≡ true)
+      from (b, e) = (in-upTo (length (j .variables)) l .1 b, eq-eqb (lowest j l) l e)
 
   pub rising-leads : Rising _<_ (leads j)
   unfolding leads
-  rising-leads = rising-keep (λ i. eqb (lowest j i) i) (rising-table (λ i. i) (length (j .variables)) (λ i k h l. h))
+  rising-leads = rising-keep (λ i. eqb (lowest j i) i) (rising-upTo (length (j .variables)))
+
+  -- there are no more of them than variables
+  pub length-leads : componentCount j ≤ length (j .variables)
+  unfolding leads
+  length-leads = omega (arith, length-keep (λ i. eqb (lowest j i) i) (upTo (length (j .variables))), length-upTo (length (j .variables)))
 
   -- the lowest variable of every variable's group is among them
   pub lead-in : (i : ℕ) → i < length (j .variables) → lowest j i ∈ leads j

@@ -3,7 +3,7 @@ use mathlib.Core.Path.{_≡_, refl, sym, _∙_, ap, ap₂, subst}
 use mathlib.Core.Logic.{_↔_, _⊎_, inl, inr, ⊎-elim}
 use mathlib.Core.Bool.{Bool, true}
 use mathlib.Core.Option.{Option, none, some}
-use mathlib.Core.List.{List, [], _∷_, _++_, flatMap, List·Memᴰ·not-nil}
+use mathlib.Core.List.{List, [], _∷_, _++_, flatMap}
 use Prim.Native.Nat.{ℕ, _<_}
 use lib.Dec.{ltb}
 use borrow.Author.Tests.{ltb-true}
@@ -16,32 +16,32 @@ use Rattle.lists.specs.Lexicographic.{now, later}
 use Rattle.lists.proofs.Keep.{every-iff}
 use Rattle.lists.specs.Members.{_∈_, here, there}
 use Rattle.lists.specs.Rising.{Rising, none as nothing, more}
-use Rattle.lists.specs.Table.{table}
+use Rattle.lists.specs.Table.{table, upTo}
 use Rattle.lists.proofs.Members.{in-append, in-flatMap}
-use Rattle.lists.proofs.Rising.{rising-append, rising-flatMap}
-use Rattle.lists.proofs.Table.{in-table, rising-table}
+use Rattle.lists.proofs.Rising.{rising-one, rising-append, rising-flatMap}
+use Rattle.lists.proofs.Table.{in-table, rising-table, in-upTo, rising-upTo}
 use Rattle.lists.proofs.Lexicographic.{lower-asym}
 use Rattle.jobs.specs.Job.{variableCount, equationCount}
 use Rattle.jobs.specs.Table.{Broken, placeOf, Before, IsFirst}
 use Rattle.jobs.specs.Decide.{firstOf}
 use Rattle.jobs.specs.Faults.{broken?, headerChecks, equationChecks, rowChecks, checks, firstBroken, noArea?, Answer, accepted, refused, answered, checked, ChecksExactly}
-use Rattle.jobs.proofs.Firsts.{first-iff, none-holds, holds-none}
+use Rattle.jobs.proofs.Firsts.{First, first-iff, none-holds, holds-none}
 
 before-asym : (r t : Reason) → Before r t → Before t r → ⊥
 before-asym r t = lower-asym _ _
 
 -- ---- what stands before what
-counts : {m n : ℕ} → m < n → pos m <ℤ pos n
-counts {m} {n} h = lin (pos m ∷ pos n ∷ []) h (search facts depth 20) (omega arith)
+pos-below : {m n : ℕ} → m < n → pos m <ℤ pos n
+pos-below {m} {n} h = lin (pos m ∷ pos n ∷ []) h (search facts depth 20) (omega arith)
 
 by-place : (r t : Reason) → placeOf r < placeOf t → Before r t
-by-place r t h = now (counts h)
+by-place r t h = now (pos-below h)
 
 by-row : (r t : Reason) → placeOf r ≡ placeOf t → rowOf r < rowOf t → Before r t
-by-row r t e h = later (ap pos e) (now (counts h))
+by-row r t e h = later (ap pos e) (now (pos-below h))
 
 by-number : (r t : Reason) → placeOf r ≡ placeOf t → rowOf r ≡ rowOf t → numberOf r < numberOf t → Before r t
-by-number r t e f h = later (ap pos e) (later (ap pos f) (now (counts h)))
+by-number r t e f h = later (ap pos e) (later (ap pos f) (now (pos-below h)))
 
 -- ---- the checks stand in the order of the table
 placed : (test : ℕ → Bool) (xs : List Reason) → every (λ r. test (placeOf r)) xs ≡ true → (r : Reason) → r ∈ xs → test (placeOf r) ≡ true
@@ -64,7 +64,7 @@ of-row k r (here e) = (ap placeOf e, ap rowOf e)
 of-row k r (there (here e)) = (ap placeOf e, ap rowOf e)
 
 rising-row : (k : ℕ) → Rising Before (equationChecks k)
-rising-row k = more first (more (λ y m. absurd (List·Memᴰ·not-nil m)) nothing)
+rising-row k = more first (rising-one (EquationRange k))
   where
     first : (t : Reason) → t ∈ EquationRange k ∷ [] → Before (EquationVariables k) t
     first t (here e) = subst (Before (EquationVariables k)) (sym e) (by-number (EquationVariables k) (EquationRange k) refl refl (omega arith))
@@ -77,23 +77,23 @@ module _ (s : List ℕ) where
   in-variables : (r : Reason) → r ∈ table VariableRange (variableCount s) → placeOf r ≡ 5
   in-variables r m = let (i, h, e) = in-table VariableRange (variableCount s) r .0 m in ap placeOf e
 
-  in-equations : (r : Reason) → r ∈ flatMap equationChecks (table (λ k. k) (equationCount s)) → placeOf r ≡ 6
-  in-equations r m = let (k, h, l) = in-flatMap equationChecks (table (λ k. k) (equationCount s)) r .0 m in of-row k r l .0
+  in-equations : (r : Reason) → r ∈ flatMap equationChecks (upTo (equationCount s)) → placeOf r ≡ 6
+  in-equations r m = let (k, h, l) = in-flatMap equationChecks (upTo (equationCount s)) r .0 m in of-row k r l .0
 
   in-rows : (r : Reason) → r ∈ rowChecks s → (4 < placeOf r) × (placeOf r < 7)
   unfolding rowChecks
   in-rows r m = ⊎-elim (λ h. let e = in-variables r h in (omega arith, omega arith)) (λ h. let e = in-equations r h in (omega arith, omega arith))
-      (in-append (table VariableRange (variableCount s)) (flatMap equationChecks (table (λ k. k) (equationCount s))) r .0 m)
+      (in-append (table VariableRange (variableCount s)) (flatMap equationChecks (upTo (equationCount s))) r .0 m)
 
   rising-rows : Rising Before (rowChecks s)
   unfolding rowChecks
   rising-rows = rising-append (rising-table VariableRange (variableCount s) (λ j k h l. by-row (VariableRange j) (VariableRange k) refl h))
-      (rising-flatMap equationChecks rising-row across-rows (rising-table (λ k. k) (equationCount s) (λ j k h l. h)))
+      (rising-flatMap equationChecks rising-row across-rows (rising-upTo (equationCount s)))
       (λ r t m l. let e = in-variables r m in let f = in-equations t l in by-place r t (omega arith))
 
   rising-checks : Rising Before (checks s)
   unfolding checks
-  rising-checks = rising-append rising-header (rising-append rising-rows (more (λ y m. absurd (List·Memᴰ·not-nil m)) nothing) to-area) from-header
+  rising-checks = rising-append rising-header (rising-append rising-rows (rising-one ShortArea) to-area) from-header
     where
       to-area : (r t : Reason) → r ∈ rowChecks s → t ∈ ShortArea ∷ [] → Before r t
       to-area r t m (here e) = subst (Before r) (sym e) (by-place r ShortArea (in-rows r m .1))
@@ -116,14 +116,14 @@ module _ (s : List ℕ) where
   unfolding checks
   in-first {r} m = in-append headerChecks (rowChecks s ++ ShortArea ∷ []) r .1 (inl m)
 
-  in-middle : {r : Reason} → (r ∈ table VariableRange (variableCount s)) ⊎ (r ∈ flatMap equationChecks (table (λ k. k) (equationCount s))) → r ∈ checks s
+  in-middle : {r : Reason} → (r ∈ table VariableRange (variableCount s)) ⊎ (r ∈ flatMap equationChecks (upTo (equationCount s))) → r ∈ checks s
   unfolding checks rowChecks
   in-middle {r} m =
-      let rows = in-append (table VariableRange (variableCount s)) (flatMap equationChecks (table (λ k. k) (equationCount s))) r .1 m in
+      let rows = in-append (table VariableRange (variableCount s)) (flatMap equationChecks (upTo (equationCount s))) r .1 m in
       in-append headerChecks (rowChecks s ++ ShortArea ∷ []) r .1 (inr (in-append (rowChecks s) (ShortArea ∷ []) r .1 (inl rows)))
 
   in-row : {r : Reason} (k : ℕ) → k < equationCount s → r ∈ equationChecks k → r ∈ checks s
-  in-row {r} k h m = in-middle (inr (in-flatMap equationChecks (table (λ k. k) (equationCount s)) r .1 (k, in-table (λ k. k) (equationCount s) k .1 (k, h, refl), m)))
+  in-row {r} k h m = in-middle (inr (in-flatMap equationChecks (upTo (equationCount s)) r .1 (k, in-upTo (equationCount s) k .1 h, m)))
 
   among : (short : Type 0) (r : Reason) → Broken short s r → r ∈ checks s
   among short ShortJob b = in-first (here refl)
@@ -145,7 +145,7 @@ module _ (s : List ℕ) where
       λ f. iff .1 (among short r (f .broken), (f .broken, λ t m b. f .none-before t b)),
     )
       where
-        iff : (firstOf (broken? d s) (checks s) ≡ some r) ↔ ((r ∈ checks s) × (Broken short s r × ((t : Reason) → t ∈ checks s → Before t r → ¬ Broken short s t)))
+        iff : (firstOf (broken? d s) (checks s) ≡ some r) ↔ First (broken? d s) before-asym (checks s) r
         iff = first-iff (broken? d s) before-asym rising-checks r
 
     pub sound-iff : (firstBroken d s ≡ none) ↔ ((r : Reason) → ¬ Broken short s r)

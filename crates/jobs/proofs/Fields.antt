@@ -1,24 +1,25 @@
--- How long a sheet is, where its fields stand, and that the numbers and the worth written on it read back.
+-- How long a sheet is, where its fields stand, and that what is written on it reads back, as far as it needs no families.
 use mathlib.Core.Path.{_≡_, refl, sym, _∙_, ap}
 use mathlib.Core.List.{List, _++_, flatMap}
-use Prim.Native.Nat.{ℕ, _+_, _*_, _≤_, _<_}
+use Prim.Native.Nat.{ℕ, _+_, _*_, _^_, _≤_, _<_}
 use native.Mathlib.Omega.{arith}
 use lib.ListN.{length, getD, drop, length-append, length-drop}
 use Rattle.ints.specs.Within.{Within}
 use Rattle.ints.proofs.{ℤ}
 use Rattle.runs.specs.Run.{bound}
-use Rattle.lists.specs.Table.{table}
+use Rattle.lists.specs.Table.{upTo}
 use Rattle.lists.proofs.Places.{length-both, drop-past, length-flatMap}
-use Rattle.lists.proofs.Table.{length-table, table-at}
-use Rattle.jobs.specs.Bytes.{unsigned, twosComplement, signedBytes}
+use Rattle.lists.proofs.Table.{table-at, length-upTo}
+use Rattle.jobs.specs.Bytes.{unsigned, twosComplement, bytesOf, signedBytes}
 use Rattle.jobs.specs.Job.{Job, jobOf}
 use Rattle.jobs.specs.Solution.{number, best}
-use Rattle.jobs.specs.Component.{leads, componentCount, groupRows, sheetLength}
+use Rattle.jobs.specs.Component.{leads, componentCount, component, groupRows, sheetLength}
 use Rattle.jobs.specs.Family.{componentJob}
 use Rattle.jobs.specs.Verdict.{Verdict, planned, noFit, refused, verdict}
 use Rattle.jobs.specs.Sheet.{header, variableFields, componentFields, laidOut, areaAfter, sheet}
-use Rattle.jobs.specs.Demands.{worthOn, numberOn}
-use Rattle.jobs.proofs.Writing.{Holds, within-holds, unsigned-first, unsigned-past, unsigned-part, signed-back}
+use Rattle.jobs.specs.Demands.{worthOn, numberOn, LaidOut}
+use Rattle.jobs.proofs.Writing.{Holds, within-holds, unsigned-first, unsigned-past, unsigned-part, unsigned-bytesOf, signed-back}
+use Rattle.jobs.proofs.Components.{length-leads, component-below}
 
 -- ---- how long each part is: the widths of its fields are numerals, so this computes
 pub length-header : (j : Job) (w : ℤ) → length (header j w) ≡ 24
@@ -35,7 +36,7 @@ length-componentFields c = refl
 
 module _ (j : Job) (x : List ℤ) (w : ℤ) where
   abbrev variablePart : List ℕ
-  variablePart = flatMap (variableFields j x) (table (λ i. i) (length (j .variables)))
+  variablePart = flatMap (variableFields j x) (upTo (length (j .variables)))
 
   abbrev componentPart : List ℕ
   componentPart = flatMap (λ l. componentFields (componentJob j l)) (leads j)
@@ -46,8 +47,8 @@ module _ (j : Job) (x : List ℤ) (w : ℤ) where
 
   length-variablePart : length variablePart ≡ 16 * length (j .variables)
   length-variablePart =
-      length-flatMap (variableFields j x) 16 (length-variableFields j x) (table (λ i. i) (length (j .variables)))
-      ∙ ap (λ n. 16 * n) (length-table (λ i. i) (length (j .variables)))
+      length-flatMap (variableFields j x) 16 (length-variableFields j x) (upTo (length (j .variables)))
+      ∙ ap (λ n. 16 * n) (length-upTo (length (j .variables)))
 
   length-componentPart : length componentPart ≡ 16 * componentCount j
   length-componentPart = length-flatMap (λ l. componentFields (componentJob j l)) 16 (λ l. length-componentFields (componentJob j l)) (leads j)
@@ -76,7 +77,7 @@ module _ (j : Job) (x : List ℤ) (w : ℤ) where
         in-rows (24 + 16 * i + at) (omega arith)
         ∙ ap (unsigned k (header j w ++ variablePart)) e
         ∙ unsigned-past k (header j w) variablePart (16 * i + at) (length-header j w)
-        ∙ unsigned-part (variableFields j x) 16 (length-variableFields j x) (table (λ i. i) (length (j .variables))) 0 k i at (omega (arith, length-table (λ i. i) (length (j .variables)))) l
+        ∙ unsigned-part (variableFields j x) 16 (length-variableFields j x) (upTo (length (j .variables))) 0 k i at (omega (arith, length-upTo (length (j .variables)))) l
         ∙ ap (λ i. unsigned k (variableFields j x i) at) (table-at (λ i. i) (length (j .variables)) i 0 h)
 
     pub in-component : (g at : ℕ) → g < componentCount j → at + k ≤ 16 →
@@ -106,6 +107,27 @@ module _ (j : Job) (x : List ℤ) (w : ℤ) where
 
     pub worth-back : Holds 8 w → worthOn (laidOut j x w ++ rest) ≡ w
     worth-back h = ap (twosComplement 8) (in-header rest 8 16 (omega arith) ∙ worth-field) ∙ signed-back 8 w h
+
+    -- an unsigned field of the header, and of a variable's row
+    header-back : (k y at : ℕ) → at + k ≤ 24 → unsigned k (header j w) at ≡ unsigned k (bytesOf k y) 0 → y < 256 ^ k → unsigned k (laidOut j x w ++ rest) at ≡ y
+    header-back k y at h e l = in-header rest k at h ∙ e ∙ unsigned-bytesOf k y l
+
+    variable-back : (k y i at : ℕ) → i < length (j .variables) → at + k ≤ 16 → unsigned k (variableFields j x i) at ≡ unsigned k (bytesOf k y) 0 → y < 256 ^ k →
+        unsigned k (laidOut j x w ++ rest) (24 + 16 * i + at) ≡ y
+    variable-back k y i at m h e l = in-variable rest k i at m h ∙ e ∙ unsigned-bytesOf k y l
+
+    -- the counts, the offsets and the numbers of groups fit their fields where n fits its own
+    pub laidOut-back : length (j .variables) < 65536 → LaidOut j (laidOut j x w ++ rest)
+    unfolding laidOut header variableFields unsigned
+    laidOut-back h = record {
+      mark = refl;
+      variables = header-back 2 (length (j .variables)) 4 (omega arith) refl (omega arith);
+      groups = header-back 2 (componentCount j) 6 (omega arith) refl (omega (arith, length-leads j));
+      variable-rows = header-back 4 24 8 (omega arith) refl (omega arith);
+      group-rows = header-back 4 (groupRows j) 12 (omega arith) refl (omega arith);
+      group = λ i m. variable-back 2 (component j i) i 12 m (omega arith) refl (omega (arith, component-below j i m, length-leads j));
+      zero = λ i m. variable-back 2 0 i 14 m (omega arith) refl (omega arith);
+    }
 
 -- ---- the area after the call: as long as before, and with the same past the sheet
 length-after : (j : Job) (v : Verdict) (area : List ℕ) → ((w : ℤ) → v ≡ planned w → sheetLength j ≤ length area) → length (areaAfter j v area) ≡ length area

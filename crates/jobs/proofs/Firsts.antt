@@ -61,7 +61,7 @@ module _ {A : Type 0} {P : A → Type 0} (d : (x : A) → Dec (P x)) where
   -- in a rising list: the member of which P holds and of none before it
   module _ {R : A → A → Type 0} (asym : (x y : A) → R x y → R y x → ⊥) where
     -- what it is to be that member
-    abbrev First : List A → A → Type 0
+    abbrev pub First : List A → A → Type 0
     First xs x = (x ∈ xs) × (P x × ((y : A) → y ∈ xs → R y x → ¬ P y))
 
     -- nothing stands before the head
@@ -85,5 +85,5 @@ module _ {A : Type 0} {P : A → Type 0} (d : (x : A) → Dec (P x)) where
     first-into (more {x = z} {xs} g r) {x} (here e) p b = first-here z xs (subst P e p) ∙ ap some (sym e)
     first-into (more {x = z} {xs} g r) {x} (there m) p b = first-later z xs (b z (here refl) (g x m)) ∙ first-into r m p (λ y k. b y (there k))
 
-    pub first-iff : {xs : List A} → Rising R xs → (x : A) → (firstOf d xs ≡ some x) ↔ ((x ∈ xs) × (P x × ((y : A) → y ∈ xs → R y x → ¬ P y)))
+    pub first-iff : {xs : List A} → Rising R xs → (x : A) → (firstOf d xs ≡ some x) ↔ First xs x
     first-iff r x = (first-out r, λ f. first-into r (f .0) (f .1 .0) (f .1 .1))

@@ -1,4 +1,5 @@
--- What the definitions `verdict` and `sheet` keep of the demands: the first and the third, and "no fit" of the second.
+-- What the definitions `verdict` and `sheet` keep of the demands: the first and the third, and of the second all but the
+-- families of a planned sheet, `FamiliesOn`.
 use mathlib.Core.Path.{_≡_, refl, sym, _∙_, ap, ap₂, subst}
 use mathlib.Core.Logic.{_↔_}
 use mathlib.Core.Option.{Option, none, some}
@@ -16,18 +17,18 @@ use Rattle.lists.proofs.Table.{length-table, table-at}
 use Rattle.lists.proofs.Sums.{sum-within}
 use Rattle.runs.specs.Run.{bound}
 use Rattle.jobs.specs.Job.{Job, jobOf, variable}
-use Rattle.jobs.specs.Solution.{number, IsSolution, objective, best}
+use Rattle.jobs.specs.Solution.{number, IsSolution, objective, Optimal, best}
 use Rattle.jobs.specs.Component.{leads, sheetLength}
 use Rattle.jobs.specs.Family.{componentJob}
 use Rattle.jobs.specs.Table.{ShortFor, IsFirst}
 use Rattle.jobs.specs.Faults.{firstBroken}
 use Rattle.jobs.specs.Verdict.{Verdict, planned, noFit, refused, firstWithout, outcome, shortFor?, verdict}
 use Rattle.jobs.specs.Sheet.{laidOut, sheet}
-use Rattle.jobs.specs.Demands.{worthOn, numberOn, numbersOn, TurnsAway, NoneFits, Optimal, CannotBeBettered}
+use Rattle.jobs.specs.Demands.{worthOn, numberOn, numbersOn, TurnsAway, LaidOut, NoneFits, CannotBeBettered, FamiliesOn, GivesFits}
 use Rattle.jobs.proofs.Faults.{reported-iff, sound-iff}
 use Rattle.jobs.proofs.Lawful.{LawfulJob, lawful-member, lawful, lawful-job}
 use Rattle.jobs.proofs.Writing.{within-holds}
-use Rattle.jobs.proofs.Fields.{number-back, worth-back, if-planned, if-noFit, if-refused, length-sheet, drop-sheet}
+use Rattle.jobs.proofs.Fields.{number-back, worth-back, laidOut-back, if-planned, if-noFit, if-refused, length-sheet, drop-sheet}
 use Rattle.jobs.proofs.Solutions.{best-is}
 use Rattle.jobs.proofs.Assembly.{some-iff, fits-iff, fits-some, all-fit, without-iff}
 
@@ -72,7 +73,7 @@ module _ (j : Job) (f : LawfulJob j) where
 
   -- so where no group is without one, the best is one
   optimal-best : firstWithout j ≡ none → Optimal j (best j)
-  optimal-best e = let (x, s) = groups-iff .1 (all-fit j e) in let (b, g) = best-is j x s in record { solution = b; best = g }
+  optimal-best e = let (x, s) = groups-iff .1 (all-fit j e) in best-is j x s
 
   none-fits : (l : ℕ) → firstWithout j ≡ some l → NoneFits j l
   none-fits l e = let (m, h) = without-iff j l .0 e in let (z, b) = h in record {
@@ -176,6 +177,19 @@ module _ (s area : List ℕ) where
     shown = worth-of;
   }
 
-  -- ---- of the second: "no fit" only when there is none
+  -- ---- of the second: the numbers on a planned sheet are a solution, and its other fields that need no families are as told
+  pub given-solution : (w : ℤ) → verdict s area ≡ planned w → IsSolution (jobOf s) (numbersOn (jobOf s) (sheet s area))
+  given-solution w e = cannot-be-bettered .optimal w e .solution
+
+  pub laid-out : (w : ℤ) → verdict s area ≡ planned w → LaidOut (jobOf s) (sheet s area)
+  laid-out w e =
+      let f = lawful-of (planned-when w e .0) in
+      subst (LaidOut (jobOf s)) (sym (if-planned s area e)) (laidOut-back (jobOf s) (best (jobOf s)) w (drop (sheetLength (jobOf s)) area) (omega (arith, f .variables)))
+
+  -- and "no fit" only when there is none
   pub no-fit-only : (l : ℕ) → verdict s area ≡ noFit l → NoneFits (jobOf s) l × (sheet s area ≡ area)
   no-fit-only l e = let (o, h) = noFit-when l e in (none-fits (jobOf s) (lawful-of o) l h, if-noFit s area e)
+
+  -- so of the second only the families are left
+  pub gives-fits : ((w : ℤ) → verdict s area ≡ planned w → FamiliesOn (jobOf s) (sheet s area)) → GivesFits s area (verdict s area) (sheet s area)
+  gives-fits f = record { given = λ w e. (given-solution w e, (laid-out w e, f w e)); no-fit = no-fit-only }

@@ -10,19 +10,19 @@ use Rattle.ints.specs.Equal.{isEqual}
 use Rattle.ints.proofs.{ℤ, _≤ℤ_, _<ℤ_, List, [], _∷_, arith}
 use Rattle.ints.proofs.Equal.{equal-true}
 use Rattle.lists.specs.Members.{_∈_, here, there}
-use Rattle.lists.specs.Rising.{Rising, none, more}
+use Rattle.lists.specs.Rising.{Rising}
 use Rattle.lists.specs.Keep.{every}
 use Rattle.lists.specs.Range.{range}
 use Rattle.lists.specs.Lexicographic.{Lower, now, later}
 use Rattle.lists.specs.Best.{Best}
 use Rattle.lists.proofs.Members.{no-members, in-map, in-flatMap}
-use Rattle.lists.proofs.Rising.{rising-map, rising-flatMap}
+use Rattle.lists.proofs.Rising.{rising-one, rising-map, rising-flatMap}
 use Rattle.lists.proofs.Keep.{in-keep, rising-keep, every-at}
 use Rattle.lists.proofs.Range.{in-range, rising-range}
 use Rattle.lists.proofs.Lexicographic.{lower-asym, lower-trans, Compared, lower, equal, higher, compared}
 use Rattle.lists.proofs.Best.{bestOf-best, is-bestOf, beats-asym, beats-trans, beats-compared}
 use Rattle.jobs.specs.Job.{Variable, Equation, Job, noVariable, noEquation, equation}
-use Rattle.jobs.specs.Solution.{number, value, IsSolution, fronts, box, solutions, objective, Better, best}
+use Rattle.jobs.specs.Solution.{Earlier, Optimal, number, value, IsSolution, fronts, box, solutions, objective, Better, best}
 
 -- ---- the box: the lists within the bounds, in lexicographic order
 in-fronts : (xs : List ℤ) (rest : List (List ℤ)) (z : List ℤ) → z ∈ fronts xs rest ↔ ((x : ℤ) × (ys : List ℤ) × (x ∈ xs) × (ys ∈ rest) × (z ≡ x ∷ ys))
@@ -47,7 +47,7 @@ rising-fronts {xs} {rest} r s = rising-flatMap (λ x. map (λ ys. x ∷ ys) rest
 
 pub rising-box : (vs : List Variable) → Rising Lower (box vs)
 unfolding box
-rising-box [] = more (λ y h. absurd (List·Memᴰ·not-nil h)) none
+rising-box [] = rising-one []
 rising-box (v ∷ vs) = rising-fronts (rising-range (v .low) (v .high)) (rising-box vs)
 
 -- a number for each variable, from its low to its high
@@ -112,12 +112,12 @@ in-solutions j x = Iff·trans (in-keep (λ x. every (holds x) (j .equations)) (b
     to : (x ∈ box (j .variables)) × (every (holds x) (j .equations) ≡ true) → IsSolution j x
     to (h, t) =
         let b = in-box (j .variables) x .0 h in
-        record { long = b .long; low = b .low; high = b .high; ties = λ k l. tie k .0 (every-at (holds x) (j .equations) noEquation .0 t k l) }
+        record { long = b .long; low = b .low; high = b .high; holds = λ k l. tie k .0 (every-at (holds x) (j .equations) noEquation .0 t k l) }
 
     from : IsSolution j x → (x ∈ box (j .variables)) × (every (holds x) (j .equations) ≡ true)
     from s = (
       in-box (j .variables) x .1 record { long = s .long; low = s .low; high = s .high },
-      every-at (holds x) (j .equations) noEquation .1 (λ k l. tie k .1 (s .ties k l)),
+      every-at (holds x) (j .equations) noEquation .1 (λ k l. tie k .1 (s .holds k l)),
     )
 
 pub none-iff : (j : Job) → (length (solutions j) ≡ 0) ↔ ((x : List ℤ) → ¬ IsSolution j x)
@@ -142,20 +142,19 @@ better-compared j x y e = beats-compared (objective j) (go (compared x y e))
     go (higher h) = inr (inr h)
 
 -- ---- the best
--- x is the best of the list of solutions exactly when it is a solution and better than every other
-best-iff : (j : Job) (x : List ℤ) → Best (objective j) Lower (solutions j) x ↔
-    (IsSolution j x × ((y : List ℤ) → IsSolution j y → (y ≡ x) ⊎ Better j x y))
+-- x is the best of the list of solutions exactly when it is optimal
+best-iff : (j : Job) (x : List ℤ) → Best (objective j) Earlier (solutions j) x ↔ Optimal j x
 best-iff j x = (
-  λ b. (in-solutions j x .0 (b .member), λ y s. b .beats y (in-solutions j y .1 s)),
-  λ (s, f). record { member = in-solutions j x .1 s; beats = λ y h. f y (in-solutions j y .0 h) },
+  λ b. record { solution = in-solutions j x .0 (b .member); best = λ y s. b .beats y (in-solutions j y .1 s) },
+  λ o. record { member = in-solutions j x .1 (o .solution); beats = λ y h. o .best y (in-solutions j y .0 h) },
 )
 
 -- where there is a solution at all, the best is one, and better than every other
-pub best-is : (j : Job) (x : List ℤ) → IsSolution j x → IsSolution j (best j) × ((y : List ℤ) → IsSolution j y → (y ≡ best j) ⊎ Better j (best j) y)
+pub best-is : (j : Job) (x : List ℤ) → IsSolution j x → Optimal j (best j)
 unfolding best
 best-is j x s = best-iff j (best j) .0 (bestOf-best (objective j) lower-trans [] (rising-solutions j) (in-solutions j x .1 s))
 
--- no other solution is better than every other
-pub best-only : (j : Job) (x : List ℤ) → IsSolution j x → ((y : List ℤ) → IsSolution j y → (y ≡ x) ⊎ Better j x y) → x ≡ best j
+-- and no other is
+pub best-only : (j : Job) (x : List ℤ) → Optimal j x → x ≡ best j
 unfolding best
-best-only j x s f = is-bestOf (objective j) lower-asym lower-trans [] (rising-solutions j) (best-iff j x .1 (s, f))
+best-only j x o = is-bestOf (objective j) lower-asym lower-trans [] (rising-solutions j) (best-iff j x .1 o)

@@ -5,7 +5,7 @@ use mathlib.Core.List.{List, _∷_, flatMap}
 use Prim.Native.Nat.{ℕ, _+_, _-_, _≤_, _<_}
 use Rattle.reasons.specs.declared.Reason.{Reason}
 use Rattle.reasons.specs.declared.Reason.the-variants.{VariableRange, EquationVariables, EquationRange}
-use Rattle.lists.specs.Table.{table, tableFrom}
+use Rattle.lists.specs.Table.{tableFrom, table, upTo}
 use Rattle.lists.proofs.Table.{from-next, from-end, from-start}
 use Rattle.jobs.specs.Table.{Broken, NoArea}
 use Rattle.jobs.specs.Decide.{firstOf}
@@ -39,7 +39,7 @@ module _ (s : List ℕ) where
   abbrev pub ofEquations : ℕ → ℕ → Option Reason
   ofEquations k m = first (checksFrom k m)
 
-  pub equations-start : (m : ℕ) → first (flatMap equationChecks (table (λ k. k) m)) ≡ ofEquations 0 m
+  pub equations-start : (m : ℕ) → first (flatMap equationChecks (upTo m)) ≡ ofEquations 0 m
   equations-start m = ap (λ l. first (flatMap equationChecks l)) (from-start (λ k. k) m)
 
   pub equations-end : (k m : ℕ) → m ≤ k → ofEquations k m ≡ none

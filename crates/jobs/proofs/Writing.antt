@@ -4,7 +4,7 @@ use mathlib.Core.Logic.{_⊎_, inl, inr}
 use mathlib.Core.Bool.{cond}
 use mathlib.Core.List.{_++_, flatMap}
 use Prim.Native.Nat.{ℕ, zero, suc, _+_, _*_, _/_, _%_, _^_, _≤_, _<_}
-use native.Mathlib.Nat.{add-zero, pow-succ'}
+use native.Mathlib.Nat.{pow-succ'}
 use lib.Dec.{ltb}
 use lib.ListN.{length, getD, List·getD-append}
 use borrow.Author.Tests.{lt-ltb, le-ltb}
@@ -50,28 +50,12 @@ unsigned-part f w wide xs c k g at h l = unsigned-same k (flatMap f xs) (f (getD
     byte i m = let p : w * g + at + i ≡ w * g + (at + i) = omega arith in rw p (flatMap-at f w wide xs g (at + i) c 0 h (omega arith))
 
 -- ---- k bytes of a number
-pub length-bytesOf : (k x : ℕ) → length (bytesOf k x) ≡ k
-unfolding bytesOf
-length-bytesOf zero x = refl
-length-bytesOf (suc k) x = ap suc (length-bytesOf k (x / 256))
-
-pub length-signedBytes : (k : ℕ) (x : ℤ) → length (signedBytes k x) ≡ k
-unfolding signedBytes
-length-signedBytes k x = length-bytesOf k _
-
 pub unsigned-bytesOf : (k x : ℕ) → x < 256 ^ k → unsigned k (bytesOf k x) 0 ≡ x
 unfolding unsigned bytesOf
 unsigned-bytesOf zero x h = omega (arith, h)
 unsigned-bytesOf (suc k) x h =
     let l : x < 256 * 256 ^ k = rw (pow-succ' 256 k) at h in
     rw (unsigned-past k ((x % 256) ∷ []) (bytesOf k (x / 256)) 0 refl, unsigned-bytesOf k (x / 256) (omega arith)) (omega arith)
-
-pub unsigned-among : (k x : ℕ) (xs ys : List ℕ) → x < 256 ^ k → unsigned k (xs ++ (bytesOf k x ++ ys)) (length xs) ≡ x
-unsigned-among k x xs ys h =
-    ap (unsigned k (xs ++ (bytesOf k x ++ ys))) (sym (add-zero (length xs)))
-    ∙ unsigned-past k xs (bytesOf k x ++ ys) 0 refl
-    ∙ unsigned-first k (bytesOf k x) ys 0 (omega (arith, length-bytesOf k x))
-    ∙ unsigned-bytesOf k x h
 
 -- ---- two's complement
 module _ (d x : ℤ) (a : negℤ d ≤ℤ (pos 2 *ℤ x)) (b : (pos 2 *ℤ x) <ℤ d) where

@@ -7,18 +7,18 @@ use Prim.Native.Nat.{ℕ, zero, suc, _+_, _*_, _<_, min}
 use lib.Dec.{eqb, ltb}
 use lib.ListN.{length}
 use Rattle.lists.specs.Keep.{keep}
-use Rattle.lists.specs.Table.{table}
+use Rattle.lists.specs.Table.{table, upTo}
 use Rattle.jobs.specs.Job.{Equation, Job, equation}
 
--- the equation ties p and q
-pub data Ties (e : Equation) (p q : ℕ) : Type 0 where
-  forth : e .left ≡ p → e .right ≡ q → Ties e p q
-  back : e .left ≡ q → e .right ≡ p → Ties e p q
+-- the equation is between p and q
+pub data Connects (e : Equation) (p q : ℕ) : Type 0 where
+  forth : e .left ≡ p → e .right ≡ q → Connects e p q
+  back : e .left ≡ q → e .right ≡ p → Connects e p q
 
 -- a path from p to q along the first m equations of the job
 pub data Chain (j : Job) (m p : ℕ) : ℕ → Type 0 where
   stay : {q : ℕ} → p ≡ q → Chain j m p q
-  onward : {q r : ℕ} (k : ℕ) → k < m → Chain j m p q → Ties (equation j k) q r → Chain j m p r
+  onward : {q r : ℕ} (k : ℕ) → k < m → Chain j m p q → Connects (equation j k) q r → Chain j m p r
 
 -- p and q are in one group
 abbrev pub Joined : Job → ℕ → ℕ → Type 0
@@ -40,12 +40,16 @@ unfoldable pub lowest : Job → ℕ → ℕ
 unfolding lowestBy
 lowest j i = lowestBy j (length (j .equations)) i
 
+-- the group that an equation belongs to, by its lowest variable
+abbrev pub home : Job → Equation → ℕ
+home j e = lowest j (e .left)
+
 -- ---- groups by their numbers
 
 -- the lowest variable of each group, in order
 unfoldable pub leads : Job → List ℕ
 unfolding keep table lowest
-leads j = keep (λ i. eqb (lowest j i) i) (table (λ i. i) (length (j .variables)))
+leads j = keep (λ i. eqb (lowest j i) i) (upTo (length (j .variables)))
 
 -- 01's g
 abbrev pub componentCount : Job → ℕ

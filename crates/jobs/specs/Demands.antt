@@ -1,19 +1,20 @@
 -- What is demanded of a plan, for the service port, the installer and the buyer in turn. Each demand is over the job's bytes,
 -- the area as lent, the verdict, and the area after the call; what the sheet says is read off its bytes.
 use mathlib.Core.Path.{_≡_}
-use mathlib.Core.Logic.{_⊎_, _↔_}
+use mathlib.Core.Logic.{_↔_}
 use mathlib.Core.Bool.{cond}
 use mathlib.Core.List.{List}
-use Prim.Native.Nat.{ℕ, _+_, _*_, _<_}
+use Prim.Native.Nat.{ℕ, _+_, _*_, _≤_, _<_}
 use lib.Dec.{eqb}
 use lib.ListN.{length, take, drop}
 use lib.IntN.{ℤ, pos, _+ℤ_, _*ℤ_}
+use lib.Signed.{_<ℤ_}
 use Rattle.lists.specs.Members.{_∈_}
 use Rattle.lists.specs.Table.{table}
 use Rattle.jobs.specs.Bytes.{u16, u32, i32, i64}
-use Rattle.jobs.specs.Job.{Job, jobOf, variable}
-use Rattle.jobs.specs.Solution.{IsSolution, objective, Better}
-use Rattle.jobs.specs.Component.{lowest, leads, componentCount, component, groupRows, sheetLength}
+use Rattle.jobs.specs.Job.{Job, jobOf}
+use Rattle.jobs.specs.Solution.{IsSolution, objective, Optimal}
+use Rattle.jobs.specs.Component.{leads, componentCount, component, groupRows, sheetLength}
 use Rattle.jobs.specs.Family.{componentJob}
 use Rattle.jobs.specs.Table.{ShortFor, Reported}
 use Rattle.jobs.specs.Verdict.{Verdict, planned, noFit, refused}
@@ -35,6 +36,9 @@ stepOn after i = i32 after (24 + 16 * i + 8)
 
 abbrev pub groupOn : List ℕ → ℕ → ℕ
 groupOn after i = u16 after (24 + 16 * i + 12)
+
+abbrev pub zeroOn : List ℕ → ℕ → ℕ
+zeroOn after i = u16 after (24 + 16 * i + 14)
 
 abbrev pub fitsOn : Job → List ℕ → ℕ → ℕ
 fitsOn j after g = u32 after (groupRows j + 16 * g)
@@ -63,24 +67,31 @@ pub record TurnsAway (s area : List ℕ) (v : Verdict) (after : List ℕ) : Type
 
 -- ---- demand 2, the installer
 
--- of the group g, whose own job is c: base, steps and fits give every solution, each exactly once; k is the place of one of
--- them; gain is the sum of weight × step
-pub record FamilyOn (c : Job) (g : ℕ) (after : List ℕ) : Type 0 where
+-- of the group g, whose own job is c and whose lowest variable is l: base, steps and fits give every solution, each exactly
+-- once. "With two or more fits the lowest count of the group has a step above zero; with one fit every step is 0." k is the
+-- place of one of them; gain is the sum of weight × step.
+pub record FamilyOn (c : Job) (l g : ℕ) (after : List ℕ) : Type 0 where
   pub all : (x : List ℤ) → IsSolution c x ↔ ((k : ℕ) × ((k < fitsOn c after g) × (x ≡ memberOn c after g k)))
   pub once : (k k′ : ℕ) → k < fitsOn c after g → k′ < fitsOn c after g → memberOn c after g k ≡ memberOn c after g k′ → k ≡ k′
+  pub rises : 2 ≤ fitsOn c after g → pos 0 <ℤ stepOn after l
+  pub rests : fitsOn c after g ≡ 1 → (i : ℕ) → i < length (c .variables) → groupOn after i ≡ g → stepOn after i ≡ pos 0
   pub chosen : chosenOn c after g < fitsOn c after g
   pub gain : gainOn c after g ≡ objective c (table (stepOn after) (length (c .variables)))
 
--- a planned sheet of the job j: "A count's number is its base + step × its group's chosen k."
-pub record SheetOf (j : Job) (after : List ℕ) : Type 0 where
+-- the parts of a sheet of the job j that do not depend on its fit-outs
+pub record LaidOut (j : Job) (after : List ℕ) : Type 0 where
   pub mark : take 4 after ≡ answerMark
   pub variables : u16 after 4 ≡ length (j .variables)
   pub groups : u16 after 6 ≡ componentCount j
   pub variable-rows : u32 after 8 ≡ 24
   pub group-rows : u32 after 12 ≡ groupRows j
   pub group : (i : ℕ) → i < length (j .variables) → groupOn after i ≡ component j i
+  pub zero : (i : ℕ) → i < length (j .variables) → zeroOn after i ≡ 0
+
+-- its families: "A count's number is its base + step × its group's chosen k."
+pub record FamiliesOn (j : Job) (after : List ℕ) : Type 0 where
   pub number : (i : ℕ) → i < length (j .variables) → numberOn after i ≡ baseOn after i +ℤ stepOn after i *ℤ pos (chosenOn j after (groupOn after i))
-  pub families : (l : ℕ) → l ∈ leads j → FamilyOn (componentJob j l) (component j l) after
+  pub families : (l : ℕ) → l ∈ leads j → FamilyOn (componentJob j l) l (component j l) after
 
 -- the job j has no solution, and l is the lowest variable of the first group that has none
 pub record NoneFits (j : Job) (l : ℕ) : Type 0 where
@@ -91,15 +102,11 @@ pub record NoneFits (j : Job) (l : ℕ) : Type 0 where
 
 -- a fit-out is given when one exists, "no fit" only when none does
 pub record GivesFits (s area : List ℕ) (v : Verdict) (after : List ℕ) : Type 0 where
-  pub given : (worth : ℤ) → v ≡ planned worth → IsSolution (jobOf s) (numbersOn (jobOf s) after) × SheetOf (jobOf s) after
+  pub given : (worth : ℤ) → v ≡ planned worth → IsSolution (jobOf s) (numbersOn (jobOf s) after) × (LaidOut (jobOf s) after × FamiliesOn (jobOf s) after)
   pub no-fit : (l : ℕ) → v ≡ noFit l → NoneFits (jobOf s) l × (after ≡ area)
 
 -- ---- demand 3, the buyer: the numbers keep every tie and bound of the whole job, the worth shown is exactly theirs, and every
 -- other solution of the job has less worth, or equal worth and comes later
-pub record Optimal (j : Job) (x : List ℤ) : Type 0 where
-  pub solution : IsSolution j x
-  pub best : (y : List ℤ) → IsSolution j y → (y ≡ x) ⊎ Better j x y
-
 pub record CannotBeBettered (s area : List ℕ) (v : Verdict) (after : List ℕ) : Type 0 where
   pub optimal : (worth : ℤ) → v ≡ planned worth → Optimal (jobOf s) (numbersOn (jobOf s) after)
   pub worth : (worth : ℤ) → v ≡ planned worth → worth ≡ objective (jobOf s) (numbersOn (jobOf s) after)

@@ -1,5 +1,5 @@
 -- Document 01, "Groups and their families": the fit-outs of a group, "base + step·k, k = 0 to fits − 1".
-use mathlib.Core.Bool.{cond}
+use mathlib.Core.Bool.{Bool, true, false, cond, _&&_}
 use mathlib.Core.List.{List, [], _∷_}
 use Prim.Native.Nat.{ℕ}
 use lib.Dec.{eqb}
@@ -10,7 +10,7 @@ use Rattle.lists.specs.Keep.{keep, place}
 use Rattle.lists.specs.Table.{table}
 use Rattle.jobs.specs.Job.{Job, variable, noVariable}
 use Rattle.jobs.specs.Solution.{number, solutions, objective, best}
-use Rattle.jobs.specs.Component.{lowest}
+use Rattle.jobs.specs.Component.{lowest, home}
 
 -- the own job of the group whose lowest variable is l: its variables and its equations. Every other variable stays in its
 -- place, held at 0 and without weight, so that a solution is again a list of n numbers.
@@ -18,7 +18,7 @@ unfoldable pub componentJob : Job → ℕ → Job
 unfolding keep table lowest
 componentJob j l = record {
   variables = table (λ i. cond (eqb (lowest j i) l) (variable j i) noVariable) (length (j .variables));
-  equations = keep (λ e. eqb (lowest j (e .left)) l) (j .equations);
+  equations = keep (λ e. eqb (home j e) l) (j .equations);
 }
 
 -- ---- what is read off its solutions, which stand in lexicographic order; c is the group's own job
@@ -44,9 +44,15 @@ unfolding table solutions
 step c = table (advance (solutions c)) (length (c .variables))
 
 -- "k is chosen for the greatest worth": the place of the best
+abbrev agree : List ℤ → List ℤ → Bool
+agree [] [] = true
+agree [] (y ∷ ys) = false
+agree (x ∷ xs) [] = false
+agree (x ∷ xs) (y ∷ ys) = isEqual x y && agree xs ys
+
 unfoldable pub chosen : Job → ℕ
-unfolding place objective best solutions
-chosen c = place (λ x. isEqual (objective c x) (objective c (best c))) (solutions c)
+unfolding place best solutions
+chosen c = place (agree (best c)) (solutions c)
 
 -- "Gain is the sum of weight × step over the group."
 unfoldable pub slope : Job → ℤ

@@ -10,13 +10,13 @@ use Rattle.reasons.specs.declared.Reason.the-variants.{ShortJob, WrongMark, Too
 use Rattle.reasons.specs.Numbers.{numberOf, rowOf}
 use Rattle.jobs.specs.declared.Checked.{Checked}
 use Rattle.jobs.specs.declared.Checked.the-variants.{Accepted, Refused}
-use Rattle.lists.specs.Table.{table}
+use Rattle.lists.specs.Table.{table, upTo}
 use Rattle.runs.specs.Run.{bound}
 use Rattle.runs.specs.Workings.{inLimits}
 use Rattle.runs.proofs.Refusals.{in-limits-iff}
 use Rattle.jobs.specs.Bytes.{unsigned, u32}
 use Rattle.jobs.specs.Decide.{tested, below?, atMost?, equal?, within?, by, both, either, not?, list?, firstOf}
-use Rattle.jobs.specs.Job.{Variable, Equation, variableCount, equationCount, equationRow, variableAt, equationAt}
+use Rattle.jobs.specs.Job.{Variable, Equation, form, variableCount, equationCount, equationRow, variableAt, equationAt}
 use Rattle.jobs.specs.Table.{mark, Header, InRange, Coefficients, Misnamed, Broken, NoArea, Reported}
 
 -- ---- each condition of the table can be decided
@@ -35,7 +35,7 @@ inRange? v =
     (both (within? bound (v .low)) (both (within? bound (v .high)) (within? 1000000 (v .weight))))
 
 abbrev pub coefficients? : (e : Equation) → Dec (Coefficients e)
-coefficients? e = tested (inLimits record { a = e .a; b = e .b; c = e .c }) (in-limits-iff record { a = e .a; b = e .b; c = e .c })
+coefficients? e = tested (inLimits (form e)) (in-limits-iff (form e))
 
 abbrev pub misnamed? : (n : ℕ) (e : Equation) → Dec (Misnamed n e)
 misnamed? n e = either (atMost? n (e .left)) (either (atMost? n (e .right)) (equal? (e .left) (e .right)))
@@ -60,7 +60,7 @@ equationChecks k = EquationVariables k ∷ EquationRange k ∷ []
 
 unfoldable pub rowChecks : List ℕ → List Reason
 unfolding table flatMap unsigned
-rowChecks s = table VariableRange (variableCount s) ++ flatMap equationChecks (table (λ k. k) (equationCount s))
+rowChecks s = table VariableRange (variableCount s) ++ flatMap equationChecks (upTo (equationCount s))
 
 unfoldable pub checks : List ℕ → List Reason
 unfolding rowChecks

@@ -3,8 +3,9 @@
 use mathlib.Core.List.{List}
 use Prim.Native.Nat.{ℕ, _+_, _*_}
 use lib.ListN.{getD}
-use lib.IntN.{ℤ, pos}
+use lib.IntN.{pos}
 use Rattle.lists.specs.Table.{table}
+use Rattle.runs.specs.declared.Equation.{Equation as Form}
 use Rattle.jobs.specs.Bytes.{u16, i32, i64}
 -- the program's structs: whole numbers in ℤ, numbers of variables in ℕ
 pub use Rattle.jobs.specs.declared.Variable.{Variable}
@@ -39,6 +40,10 @@ equationFrom s at = record { left = u16 s at; right = u16 s (at + 2); a = i32 s 
 
 abbrev pub equationAt : List ℕ → ℕ → Equation
 equationAt s k = equationFrom s (equationRow (variableCount s) k)
+
+-- a, b and c alone, as the carrying working takes them
+abbrev pub form : Equation → Form
+form e = record { a = e .a; b = e .b; c = e .c }
 
 unfoldable pub jobOf : List ℕ → Job
 jobOf s = record { variables = table (variableAt s) (variableCount s); equations = table (equationAt s) (equationCount s) }

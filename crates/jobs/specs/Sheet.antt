@@ -3,7 +3,7 @@ use mathlib.Core.List.{List, [], _∷_, _++_, flatMap}
 use Prim.Native.Nat.{ℕ, _+_}
 use lib.ListN.{length, drop}
 use lib.IntN.{ℤ}
-use Rattle.lists.specs.Table.{table}
+use Rattle.lists.specs.Table.{table, upTo}
 use Rattle.jobs.specs.Bytes.{bytesOf, signedBytes}
 use Rattle.jobs.specs.Job.{Job, jobOf}
 use Rattle.jobs.specs.Solution.{number, best}
@@ -36,7 +36,7 @@ componentFields c = bytesOf 4 (fits c) ++ bytesOf 4 (chosen c) ++ signedBytes 8 
 -- all of it, for the fit-out x
 unfoldable pub laidOut : Job → List ℤ → ℤ → List ℕ
 unfolding header table flatMap variableFields componentFields componentJob leads
-laidOut j x worth = header j worth ++ flatMap (variableFields j x) (table (λ i. i) (length (j .variables))) ++ flatMap (λ l. componentFields (componentJob j l)) (leads j)
+laidOut j x worth = header j worth ++ flatMap (variableFields j x) (upTo (length (j .variables))) ++ flatMap (λ l. componentFields (componentJob j l)) (leads j)
 
 -- "Bytes past 24 + 16n + 16g keep their contents." "On no fit and on refusal the whole answer area keeps its contents."
 unfoldable pub areaAfter : Job → Verdict → List ℕ → List ℕ

@@ -1,6 +1,7 @@
 -- Document 01, "Groups and their families": the fit-outs of a job, here its solutions; their worth, here the objective; and
 -- the best of them. "All this is read from the job, and not from groups, bases or steps."
 use mathlib.Core.Path.{_≡_}
+use mathlib.Core.Logic.{_⊎_}
 use mathlib.Core.List.{List, [], _∷_, map, flatMap}
 use Prim.Native.Nat.{ℕ, _<_}
 use lib.ListN.{length, getD}
@@ -28,7 +29,7 @@ pub record IsSolution (j : Job) (x : List ℤ) : Type 0 where
   pub long : length x ≡ length (j .variables)
   pub low : (i : ℕ) → i < length (j .variables) → variable j i .low ≤ℤ number x i
   pub high : (i : ℕ) → i < length (j .variables) → number x i ≤ℤ variable j i .high
-  pub ties : (k : ℕ) → k < length (j .equations) → value (equation j k) x ≡ equation j k .c
+  pub holds : (k : ℕ) → k < length (j .equations) → value (equation j k) x ≡ equation j k .c
 
 -- ---- all of them, by exhaustive search (proofs/Solutions.antt: x is in the list exactly when it is a solution)
 
@@ -63,7 +64,12 @@ Earlier = Lower
 abbrev pub Better : Job → List ℤ → List ℤ → Type 0
 Better j = Beats (objective j) Earlier
 
--- the first solution that no other exceeds in worth (proofs/Solutions.antt: it is one, and better than every other)
+-- x is a solution, and better than every other
+pub record Optimal (j : Job) (x : List ℤ) : Type 0 where
+  pub solution : IsSolution j x
+  pub best : (y : List ℤ) → IsSolution j y → (y ≡ x) ⊎ Better j x y
+
+-- the first solution that no other exceeds in worth (proofs/Solutions.antt: where there is one, it is the optimal one)
 unfoldable pub best : Job → List ℤ
 unfolding bestOf solutions objective
 best j = bestOf (objective j) [] (solutions j)

@@ -14,7 +14,7 @@ use Rattle.runs.specs.Run.{bound}
 use Rattle.runs.specs.Workings.{InLimits}
 use Rattle.jobs.specs.Bytes.{u32}
 use Rattle.jobs.specs.Component.{sheetLength}
-use Rattle.jobs.specs.Job.{Variable, Equation, Job, variableCount, equationCount, equationRow, variableAt, equationAt}
+use Rattle.jobs.specs.Job.{Variable, Equation, Job, form, variableCount, equationCount, equationRow, variableAt, equationAt}
 
 -- ---- the conditions, line by line
 
@@ -38,7 +38,7 @@ pub record InRange (v : Variable) : Type 0 where
 
 -- the limits of a, b and c are those of the carrying working
 abbrev pub Coefficients : Equation → Type 0
-Coefficients e = InLimits record { a = e .a; b = e .b; c = e .c }
+Coefficients e = InLimits (form e)
 
 -- "a count not below n, or left equal to right"
 abbrev pub Misnamed : ℕ → Equation → Type 0

@@ -3,18 +3,19 @@
 use mathlib.Core.Path.{_≡_, refl, ap}
 use mathlib.Core.List.{List, [], _∷_, _++_, map}
 use Prim.Native.Nat.{ℕ, _+_}
-use lib.ListN.{length}
-use lib.IntN.{ℤ, pos}
+use lib.ListN.{length, take}
+use lib.IntN.{ℤ, pos, _+ℤ_, _*ℤ_}
 use Rattle.lists.specs.Members.{_∈_}
 use Rattle.lists.specs.Table.{table}
 use Rattle.lists.proofs.Maps.{same-values}
-use Rattle.jobs.specs.Job.{jobOf}
-use Rattle.jobs.specs.Solution.{solutions, objective, best}
-use Rattle.jobs.specs.Component.{leads, component}
-use Rattle.jobs.specs.Family.{componentJob}
+use Rattle.jobs.specs.Bytes.{u16, u32}
+use Rattle.jobs.specs.Job.{Job, jobOf}
+use Rattle.jobs.specs.Solution.{number, solutions, objective, best}
+use Rattle.jobs.specs.Component.{lowest, leads, componentCount, component, groupRows}
+use Rattle.jobs.specs.Family.{componentJob, base, step, chosen, slope}
 use Rattle.jobs.specs.Verdict.{Verdict, planned, noFit, refused, verdict}
-use Rattle.jobs.specs.Sheet.{sheet}
-use Rattle.jobs.specs.Demands.{worthOn, numbersOn, fitsOn, memberOn}
+use Rattle.jobs.specs.Sheet.{answerMark, sheet}
+use Rattle.jobs.specs.Demands.{worthOn, baseOn, stepOn, groupOn, zeroOn, fitsOn, chosenOn, gainOn, numbersOn, memberOn}
 
 -- a job, the area as lent, and what they give
 pub record Vector : Type 0 where
@@ -255,14 +256,57 @@ computed = refl
 pub worked : (v : Vector) → v ∈ vectors → (verdict (v .job) (v .area) ≡ v .verdict) × (sheet (v .job) (v .area) ≡ v .after)
 worked v h = let e = same-values given expected computed h in (ap (λ p. p .0) e, ap (λ p. p .1) e)
 
--- ---- the demands' readings, tried on the same sheets: the numbers, the worth, and base + step·k of each group
-abbrev onSheet : Vector → List ℤ × (ℤ × List (List (List ℤ)))
-onSheet v =
-    let j = jobOf (v .job) in
-    (numbersOn j (v .after), (worthOn (v .after), map (λ l. table (memberOn j (v .after) (component j l)) (fitsOn j (v .after) (component j l))) (leads j)))
+-- ---- the demands' readings, tried on the same sheets
+record Reading : Type 0 where
+  header : List ℕ
+  worth : ℤ
+  numbers : List ℤ
+  sums : List ℤ
+  bases : List ℤ
+  steps : List ℤ
+  groups : List ℕ
+  zeros : List ℕ
+  families : List (List (List ℤ))
+  chosens : List ℕ
+  gains : List ℤ
 
-abbrev defined : Vector → List ℤ × (ℤ × List (List (List ℤ)))
-defined v = let j = jobOf (v .job) in (best j, (objective j (best j), map (λ l. solutions (componentJob j l)) (leads j)))
+-- what the demands read off the bytes
+abbrev onSheet : Vector → Reading
+onSheet v =
+    let s = v .after in
+    let j = jobOf (v .job) in
+    record {
+      header = take 4 s ++ u16 s 4 ∷ u16 s 6 ∷ u32 s 8 ∷ u32 s 12 ∷ [];
+      worth = worthOn s;
+      numbers = numbersOn j s;
+      sums = table (λ i. baseOn s i +ℤ stepOn s i *ℤ pos (chosenOn j s (groupOn s i))) (length (j .variables));
+      bases = table (baseOn s) (length (j .variables));
+      steps = table (stepOn s) (length (j .variables));
+      groups = table (groupOn s) (length (j .variables));
+      zeros = table (zeroOn s) (length (j .variables));
+      families = map (λ l. table (memberOn j s (component j l)) (fitsOn j s (component j l))) (leads j);
+      chosens = map (λ l. chosenOn j s (component j l)) (leads j);
+      gains = map (λ l. gainOn j s (component j l)) (leads j);
+    }
+
+-- what the definitions mean
+abbrev defined : Vector → Reading
+defined v =
+    let j = jobOf (v .job) in
+    let own : ℕ → Job = λ i. componentJob j (lowest j i) in
+    record {
+      header = answerMark ++ length (j .variables) ∷ componentCount j ∷ 24 ∷ groupRows j ∷ [];
+      worth = objective j (best j);
+      numbers = best j;
+      sums = best j;
+      bases = table (λ i. number (base (own i)) i) (length (j .variables));
+      steps = table (λ i. number (step (own i)) i) (length (j .variables));
+      groups = table (component j) (length (j .variables));
+      zeros = table (λ i. 0) (length (j .variables));
+      families = map (λ l. solutions (componentJob j l)) (leads j);
+      chosens = map (λ l. chosen (componentJob j l)) (leads j);
+      gains = map (λ l. slope (componentJob j l)) (leads j);
+    }
 
 read-computed : map onSheet fitted ≡ map defined fitted
 unfolding verdict sheet table

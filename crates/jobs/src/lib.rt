@@ -6,7 +6,7 @@ ghost use mathlib.Core.Path.{_≡_};
 ghost use mathlib.Core.List.{flatMap};
 ghost use Prim.Native.Nat.{_≤_};
 ghost use lib.ListN.{length};
-ghost use Rattle.lists.specs.Table.{table};
+ghost use Rattle.lists.specs.Table.{table, upTo};
 ghost use Rattle.reasons.specs.declared.Reason.the-variants.{VariableRange};
 ghost use Rattle.jobs.specs.Job.{variableCount, variableRow, equationCount, equationRow};
 ghost use Rattle.jobs.specs.Decide.{firstOf};
@@ -96,7 +96,7 @@ fn check_equations(job: &[u8], n: usize, m: usize) -> Checked
     requires { ⌜ m ≡ equationCount (now job) ⌝ }
     requires { ⌜ m ≤ 1024 ⌝ }
     requires { ⌜ equationRow n m ≤ length (now job) ⌝ }
-    ensures { λ r. ⌜ faultOf r ≡ firstOf (broken? noArea? (now (job .entry))) (flatMap equationChecks (table (λ k. k) m)) ⌝ }
+    ensures { λ r. ⌜ faultOf r ≡ firstOf (broken? noArea? (now (job .entry))) (flatMap equationChecks (upTo m)) ⌝ }
 {
     let mut k: usize = 0;
     loop {

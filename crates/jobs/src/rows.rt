@@ -5,7 +5,7 @@ ghost use mathlib.Core.Bool.{true};
 ghost use mathlib.Core.Logic.{_↔_};
 ghost use Prim.Native.Nat.{_+_, _≤_, _<_};
 ghost use lib.ListN.{length};
-ghost use Rattle.jobs.specs.Job.{variableRow, variableAt, equationRow, equationFrom};
+ghost use Rattle.jobs.specs.Job.{variableRow, variableAt, equationRow, equationFrom, form};
 ghost use Rattle.jobs.specs.Table.{InRange, Misnamed, Coefficients};
 use crate::Equation;
 use crate::Variable;
@@ -57,6 +57,17 @@ impl Equation {
         }
     }
 
+    /// a, b and c alone, as `Run::carry` takes them.
+    pub fn form(self) -> runs::Equation
+        ensures { λ r. ⌜ r ≡ form self ⌝ }
+    {
+        runs::Equation {
+            a: self.a,
+            b: self.b,
+            c: self.c,
+        }
+    }
+
     // Does it name a variable that is not below n, or one variable twice?
     pub(crate) fn is_misnamed(self, n: usize) -> bool
         ensures { λ r. ⌜ (r ≡ true) ↔ Misnamed n self ⌝ }
@@ -74,11 +85,6 @@ impl Equation {
     pub(crate) fn in_limits(self) -> bool
         ensures { λ r. ⌜ (r ≡ true) ↔ Coefficients self ⌝ }
     {
-        let form = runs::Equation {
-            a: self.a,
-            b: self.b,
-            c: self.c,
-        };
-        form.in_limits()
+        self.form().in_limits()
     }
 }

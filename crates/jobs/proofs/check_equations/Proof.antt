@@ -6,7 +6,7 @@ use mathlib.Core.Bool.{Bool, true, false, false≢true}
 use mathlib.Core.List.{List, flatMap}
 use Prim.Native.Nat.{ℕ, _-_, _≤_}
 use native.Mathlib.Omega.{arith}
-use Rattle.lists.specs.Table.{table}
+use Rattle.lists.specs.Table.{upTo}
 use Rattle.jobs.specs.Job.{Equation, variableCount, equationRow, equationFrom, equationAt}
 use Rattle.jobs.specs.Table.{Misnamed, Coefficients}
 use Rattle.jobs.specs.Decide.{firstOf}
@@ -32,7 +32,7 @@ module _ {s : List ℕ} {n k : ℕ} {e : Equation} (r : Row s n k e) where
   named i f h = false≢true (sym f ∙ i .1 (subst (Misnamed n) (sym is-row) (subst (λ t. Misnamed t (equationAt s k)) (sym (r .count)) h)))
 
 abbrev Inv-loop : tie.InvT-loop
-Inv-loop job n m k₀ k = (k ≤ m) × (firstOf (broken? noArea? job) (flatMap equationChecks (table (λ i. i) m)) ≡ ofEquations job k m)
+Inv-loop job n m k₀ k = (k ≤ m) × (firstOf (broken? noArea? job) (flatMap equationChecks (upTo m)) ≡ ofEquations job k m)
 
 abbrev μ-loop : tie.MeasureT-loop
 μ-loop job n m k₀ k = m - k

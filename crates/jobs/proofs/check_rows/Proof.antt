@@ -5,7 +5,7 @@ use mathlib.Core.Option.{Option}
 use mathlib.Core.List.{List, flatMap}
 use Rattle.reasons.specs.declared.Reason.{Reason}
 use Rattle.reasons.specs.declared.Reason.the-variants.{VariableRange}
-use Rattle.lists.specs.Table.{table}
+use Rattle.lists.specs.Table.{table, upTo}
 use Rattle.jobs.specs.Job.{variableCount}
 use Rattle.jobs.specs.Decide.{firstOf}
 use Rattle.jobs.specs.Faults.{broken?, noArea?, faultOf, equationChecks, rowChecks}
@@ -52,7 +52,7 @@ returns-2 : tie.Need-returns-2
 unfolding rowChecks
 returns-2 c =
     let a = c .before .before .before in
-    c .check-equations .ensures ∙ ap (λ m. first a (flatMap equationChecks (table (λ k. k) m))) (a .before .equation-count .ensures) ∙
+    c .check-equations .ensures ∙ ap (λ m. first a (flatMap equationChecks (upTo m))) (a .before .equation-count .ensures) ∙
     sym (first-past (broken? noArea? _) (variables a) _ (of-variables a ∙ ap faultOf (c .before .enum-told .given .1)))
 
 pub check-rows-spec : {M : Type 1} → statement M
