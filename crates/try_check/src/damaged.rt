@@ -27,7 +27,7 @@ pub fn all(b: &mut Buffer) {
     report(b, b"disagreements", 9);
 }
 
-// The jobs that disagree stand on lines above theirs.
+// A line of the tally.
 fn report(b: &mut Buffer, name: &[u8], what: u16) {
     let sum = total(b, what);
     print::text(name);

@@ -1,4 +1,4 @@
-//! Jobs of 3 variables and 2 equations, 100 bytes long, with one thing changed or several. What is expected of each follows from
+//! Mostly jobs of 3 variables and 2 equations, 100 bytes long, with one thing changed or several. What is expected of each follows from
 //! document 01's table alone.
 
 use crate::job;
