@@ -43,13 +43,14 @@ unfoldable pub step : Job → List ℤ
 unfolding table solutions
 step c = table (advance (solutions c)) (length (c .variables))
 
--- "k is chosen for the greatest worth": the place of the best
+-- have two lists the same numbers?
 abbrev agree : List ℤ → List ℤ → Bool
 agree [] [] = true
 agree [] (y ∷ ys) = false
 agree (x ∷ xs) [] = false
 agree (x ∷ xs) (y ∷ ys) = isEqual x y && agree xs ys
 
+-- "k is chosen for the greatest worth": the place of the best
 unfoldable pub chosen : Job → ℕ
 unfolding place best solutions
 chosen c = place (agree (best c)) (solutions c)
