@@ -12,10 +12,16 @@ use Rattle.lists.specs.Best.{Beats, greater, earlier, Best, firstBest, b
 
 module _ {A : Type 0} (value : A → ℤ) {R : A → A → Type 0} where
   -- what the best is or beats is worth no more
-  at-most : {m x : A} → (x ≡ m) ⊎ Beats value R m x → value x ≤ℤ value m
+  pub at-most : {m x : A} → (x ≡ m) ⊎ Beats value R m x → value x ≤ℤ value m
   at-most {m} {x} (inl e) = lin (value x ∷ value m ∷ []) (ap value e) (search facts depth 20) (omega arith)
   at-most {m} {x} (inr (greater h)) = lin (value x ∷ value m ∷ []) h (search facts depth 20) (omega arith)
   at-most {m} {x} (inr (earlier e r)) = lin (value x ∷ value m ∷ []) e (search facts depth 20) (omega arith)
+
+  -- and where it is worth as much, the order decides
+  pub among-equals : {m x : A} → value x ≡ value m → (x ≡ m) ⊎ Beats value R m x → (x ≡ m) ⊎ R m x
+  among-equals q (inl e) = inl e
+  among-equals {m} {x} q (inr (greater h)) = absurd (lt-ne (value x) (value m) h q)
+  among-equals q (inr (earlier e r)) = inr r
 
   module _ (trans : (x y z : A) → R x y → R y z → R x z) where
     -- a member x behind b that is worth no more than b

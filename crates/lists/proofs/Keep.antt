@@ -1,6 +1,6 @@
 -- The members of a kept list, that it rises with the list and is no longer, and how long it is where those below a member are
--- kept; what the tests of all members and of any say.
-use mathlib.Core.Path.{_≡_, refl, sym, _∙_, ap}
+-- kept; what the tests of all members and of any say, and the place of the first that passes.
+use mathlib.Core.Path.{_≡_, refl, sym, _∙_, ap, ap₂}
 use mathlib.Core.Logic.{_↔_, _⊎_, inl, inr, ⊎-elim}
 use mathlib.Core.Bool.{Bool, true, false, cond, _||_, false≢true, and-eq-true-iff}
 use mathlib.Core.List.{List, [], _∷_}
@@ -11,7 +11,7 @@ use lib.ListN.{length, getD}
 use borrow.Author.Tests.{lt-ltb, le-ltb}
 use Rattle.lists.specs.Members.{_∈_, here, there}
 use Rattle.lists.specs.Rising.{Rising, none, more}
-use Rattle.lists.specs.Keep.{keep, every, any}
+use Rattle.lists.specs.Keep.{keep, every, any, place}
 use Rattle.lists.proofs.Members.{member-at, place-of}
 
 module _ {A : Type 0} (p : A → Bool) where
@@ -106,6 +106,19 @@ module _ {A : Type 0} (p : A → Bool) where
 
   pub any-iff : (xs : List A) → (any p xs ≡ true) ↔ ((z : A) × (z ∈ xs) × (p z ≡ true))
   any-iff xs = (any-out xs, λ h. any-into (h .1) (h .2))
+
+  -- ---- place: the first member that passes
+  pub place-at : (xs : List A) (k : ℕ) (d : A) → k < length xs → p (getD xs k d) ≡ true → ((i : ℕ) → i < k → p (getD xs i d) ≡ false) → place p xs ≡ k
+  unfolding place
+  place-at [] k d h t f = absurd (omega arith)
+  place-at (x ∷ xs) zero d h t f = rw t
+  place-at (x ∷ xs) (suc k) d h t f = rw (f 0 (omega arith)) (ap suc (place-at xs k d (omega arith) t (λ i l. f (suc i) (omega arith))))
+
+-- tests that agree on the members keep the same
+pub keep-same : {A : Type 0} (p q : A → Bool) (xs : List A) → ((z : A) → z ∈ xs → p z ≡ q z) → keep p xs ≡ keep q xs
+unfolding keep
+keep-same p q [] f = refl
+keep-same p q (x ∷ xs) f = ap₂ (λ b ks. cond b (x ∷ ks) ks) (f x (here refl)) (keep-same p q xs (λ z h. f z (there h)))
 
 -- in a rising list of naturals, as many members are lower than a member as stand before it
 pub rank-at : {xs : List ℕ} → Rising _<_ xs → (k : ℕ) → k < length xs → length (keep (λ x. ltb x (getD xs k 0)) xs) ≡ k

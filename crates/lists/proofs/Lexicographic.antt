@@ -49,3 +49,22 @@ lower-at (x ∷ xs) [] i a b s l = absurd (omega arith)
 lower-at (x ∷ xs) (y ∷ ys) zero a b s l = now l
 lower-at (x ∷ xs) (y ∷ ys) (suc i) a b s l =
     later (s 0 (omega arith)) (lower-at xs ys i (omega arith) (omega arith) (λ j h. s (suc j) (omega arith)) l)
+
+-- and the other way: where one is lower there is such a place
+pub record FirstLower (xs ys : List ℤ) : Type 0 where
+  pub at : ℕ
+  pub left : at < length xs
+  pub right : at < length ys
+  pub same : (j : ℕ) → j < at → getD xs j (pos 0) ≡ getD ys j (pos 0)
+  pub less : getD xs at (pos 0) <ℤ getD ys at (pos 0)
+
+pub first-lower : {xs ys : List ℤ} → Lower xs ys → FirstLower xs ys
+first-lower (now h) = record { at = 0; left = omega arith; right = omega arith; same = λ j k. absurd (omega arith); less = h }
+first-lower (later {x} {y} {xs} {ys} e h) = further (first-lower h)
+  where
+    further : FirstLower xs ys → FirstLower (x ∷ xs) (y ∷ ys)
+    further p = record { at = suc (p .at); left = omega (arith, p .left); right = omega (arith, p .right); same = same′; less = p .less }
+      where
+        same′ : (j : ℕ) → j < suc (p .at) → getD (x ∷ xs) j (pos 0) ≡ getD (y ∷ ys) j (pos 0)
+        same′ zero k = e
+        same′ (suc j) k = p .same j (omega arith)

@@ -1,6 +1,6 @@
--- What stands at each place: of a list behind another, and of parts of one width behind each other.
+-- What stands at each place: of a list behind another, of one that is mapped, and of parts of one width behind each other.
 use mathlib.Core.Path.{_≡_, refl, _∙_, ap, ap₂}
-use mathlib.Core.List.{List, [], _∷_, _++_, flatMap}
+use mathlib.Core.List.{List, [], _∷_, _++_, map, flatMap}
 use Prim.Native.Nat.{ℕ, zero, suc, _+_, _*_, _<_}
 use native.Mathlib.Nat.{zero-add, suc-add}
 use native.Mathlib.Omega.{arith}
@@ -28,6 +28,12 @@ module _ {A : Type 0} where
   pub drop-past : (xs ys : List A) → drop (length xs) (xs ++ ys) ≡ ys
   drop-past [] ys = refl
   drop-past (x ∷ xs) ys = drop-past xs ys
+
+-- a function put to each member
+pub map-at : {A B : Type 0} (f : A → B) (xs : List A) (i : ℕ) (c : A) (d : B) → i < length xs → getD (map f xs) i d ≡ f (getD xs i c)
+map-at f [] i c d h = absurd (omega arith)
+map-at f (x ∷ xs) zero c d h = refl
+map-at f (x ∷ xs) (suc i) c d h = map-at f xs i c d (omega arith)
 
 -- parts of width w, one for each member
 module _ {A B : Type 0} (f : A → List B) (w : ℕ) (wide : (x : A) → length (f x) ≡ w) where

@@ -3,9 +3,12 @@
 use mathlib.Core.Path.{_≡_, refl, sym, _∙_, ap₂}
 use mathlib.Core.Logic.{_↔_, ⊎-elim}
 use mathlib.Core.List.{List, [], _∷_, _++_, map, flatMap, List·Memᴰ·not-nil}
+use Prim.Native.Nat.{ℕ, zero, suc, _<_}
+use native.Mathlib.Omega.{arith}
+use lib.ListN.{length, getD}
 use Rattle.lists.specs.Members.{_∈_, here, there}
 use Rattle.lists.specs.Rising.{Rising, none, more}
-use Rattle.lists.proofs.Members.{in-append, in-map, in-flatMap}
+use Rattle.lists.proofs.Members.{member-at, in-append, in-map, in-flatMap}
 
 module _ {A : Type 0} {R : A → A → Type 0} (asym : (x y : A) → R x y → R y x → ⊥) where
   -- the heads of two rising lists with the same members
@@ -28,6 +31,13 @@ module _ {A : Type 0} {R : A → A → Type 0} (asym : (x y : A) → R x y → R
     where
       e : x ≡ y
       e = head f g (m x .0 (here refl)) (m y .1 (here refl))
+
+-- what stands at two places of a rising list
+pub rising-at : {A : Type 0} {R : A → A → Type 0} {xs : List A} → Rising R xs → (i k : ℕ) (d : A) → i < k → k < length xs → R (getD xs i d) (getD xs k d)
+rising-at none i k d h l = absurd (omega arith)
+rising-at (more {x} {xs} f r) i zero d h l = absurd (omega arith)
+rising-at (more {x} {xs} f r) zero (suc k) d h l = f (getD xs k d) (member-at xs k d (omega arith))
+rising-at (more {x} {xs} f r) (suc i) (suc k) d h l = rising-at r i k d (omega arith) (omega arith)
 
 -- ---- lists of one member, and made by ++, map and flatMap
 pub rising-one : {A : Type 0} {R : A → A → Type 0} (x : A) → Rising R (x ∷ [])

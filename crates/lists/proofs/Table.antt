@@ -9,6 +9,7 @@ use lib.ListN.{length, getD}
 use Rattle.lists.specs.Members.{_∈_, here, there}
 use Rattle.lists.specs.Rising.{Rising, none, more}
 use Rattle.lists.specs.Table.{tableFrom, table, upTo}
+use Rattle.lists.proofs.Rising.{rising-at}
 
 module _ {A : Type 0} (f : ℕ → A) where
   from-out : (i n : ℕ) {z : A} → z ∈ tableFrom f i n → (k : ℕ) × (i ≤ k) × (k < i + n) × (z ≡ f k)
@@ -61,6 +62,12 @@ module _ {A : Type 0} (f : ℕ → A) where
   pub table-at : (n k : ℕ) (d : A) → k < n → getD (table f n) k d ≡ f k
   unfolding table
   table-at n k d h = let e : 0 + k ≡ k = omega arith in from-at 0 n k d h ∙ ap f e
+
+  -- a table that rises, by the places of it
+  pub table-rises : {R : A → A → Type 0} (n : ℕ) → Rising R (table f n) → (i k : ℕ) → i < k → k < n → R (f i) (f k)
+  table-rises {R} n r i k h l =
+      let q : R (getD (table f n) i (f 0)) (getD (table f n) k (f 0)) = rising-at r i k (f 0) h (omega (arith, length-table n)) in
+      rw (table-at n i (f 0) (omega arith), table-at n k (f 0) l) at q
 
   -- a walk through the table: what is left of it at i, before its end and there
   pub from-next : (i n : ℕ) → i < n → tableFrom f i (n - i) ≡ f i ∷ tableFrom f (i + 1) (n - (i + 1))
