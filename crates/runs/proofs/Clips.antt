@@ -20,7 +20,7 @@ use Rattle.runs.proofs.Progressions.{Along, along-iff, alone, in-along}
 one-less : (m n : ℕ) → m ≡ suc n → pos m -ℤ pos 1 ≡ pos n
 one-less m n e = lin (pos m ∷ pos n ∷ []) e (search facts depth 20) (omega arith)
 
-in-progression : (f s x : ℤ) (n : ℕ) → InRun (progression f s n) x ↔ Along f s (pos n) x
+pub in-progression : (f s x : ℤ) (n : ℕ) → InRun (progression f s n) x ↔ Along f s (pos n) x
 in-progression f s x zero = Iff·trans (in-along (progression f s zero) x) (alone f (pos 0) s x, alone f s (pos 0) x)
 in-progression f s x (suc n) = Iff·trans (in-along (progression f s (suc n)) x) (again, back)
   where
@@ -33,7 +33,7 @@ in-progression f s x (suc n) = Iff·trans (in-along (progression f s (suc n)) x)
     back : Along f s (pos (suc n)) x → Along f s (pos (suc (suc n)) -ℤ pos 1) x
     back a = rw e a
 
-progression-form : (f s : ℤ) (n : ℕ) → pos 0 <ℤ s → negℤ (pos bound) ≤ℤ f → (f +ℤ s *ℤ pos n) ≤ℤ pos bound → OneForm (progression f s n)
+pub progression-form : (f s : ℤ) (n : ℕ) → pos 0 <ℤ s → negℤ (pos bound) ≤ℤ f → (f +ℤ s *ℤ pos n) ≤ℤ pos bound → OneForm (progression f s n)
 progression-form f s n h a b = go n (λ x i. inside x (in-progression f s x n .0 i))
   where
     inside : (x : ℤ) → Along f s (pos n) x → Within bound x

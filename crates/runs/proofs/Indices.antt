@@ -38,7 +38,7 @@ abbrev pub strideIn : Run → ℤ → ℤ
 strideIn r s = ratio s (r .step)
 
 -- fewer than two, or not
-few-or-more : (n : ℕ) → (n ≤ 1) ⊎ (2 ≤ n)
+pub few-or-more : (n : ℕ) → (n ≤ 1) ⊎ (2 ≤ n)
 few-or-more zero = inl (omega arith)
 few-or-more (suc zero) = inl (omega arith)
 few-or-more (suc (suc n)) = inr (omega arith)

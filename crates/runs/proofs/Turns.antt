@@ -72,6 +72,9 @@ pub record FamilyRun (r : Run) : Type 0 where
   pub empty : r .many ≡ 0 → r .first ≡ pos 0
   pub inside : (x : ℤ) → InRun r x → Within bound x
 
+pub one-form-family : {r : Run} → OneForm r → FamilyRun r
+one-form-family o = record { moves = one-form-moves o; empty = λ e. o .empty e .0; inside = o .inside }
+
 -- one that falls has two numbers or more, so the empty one stays 0, 0, 0
 pub upward-form : {r : Run} → FamilyRun r → OneForm (upward r)
 upward-form {r} f = go (ltZ (r .step) (pos 0)) refl
