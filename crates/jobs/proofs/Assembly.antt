@@ -29,7 +29,7 @@ use Rattle.jobs.proofs.Solutions.{in-solutions, none-iff, best-is}
 use Rattle.jobs.proofs.Components.{chain-edge, joined-iff, rising-leads, lead-in}
 
 -- every equation holds, by places and by members
-holds-iff : (es : List Equation) (x : List ℤ) →
+pub holds-iff : (es : List Equation) (x : List ℤ) →
     ((k : ℕ) → k < length es → value (getD es k noEquation) x ≡ getD es k noEquation .c) ↔ ((e : Equation) → e ∈ es → value e x ≡ e .c)
 holds-iff es x = each-iff (λ e. value e x ≡ e .c) es noEquation
 
@@ -38,10 +38,10 @@ same-value : (e : Equation) (x y : List ℤ) → number x (e .left) ≡ number y
 same-value e x y p q = ap₂ (λ u v. e .a *ℤ u +ℤ e .b *ℤ v) p q
 
 -- a number from the low to the high of a variable
-abbrev Between : Variable → ℤ → Type 0
+abbrev pub Between : Variable → ℤ → Type 0
 Between v z = (v .low ≤ℤ z) × (z ≤ℤ v .high)
 
-between : {u v : Variable} {y z : ℤ} → u ≡ v → y ≡ z → Between v z → Between u y
+pub between : {u v : Variable} {y z : ℤ} → u ≡ v → y ≡ z → Between v z → Between u y
 between p q b = rw (p, q) b
 
 module _ (j : Job) where

@@ -1,7 +1,7 @@
 -- Two variables are joined exactly when they have the same lowest variable, which is joined to them and the lowest that is;
 -- and groups are numbered in the order of their lowest variable.
 use mathlib.Core.Path.{_≡_, refl, sym, _∙_, ap}
-use mathlib.Core.Logic.{_↔_, _⊎_, inl, inr, Iff·trans}
+use mathlib.Core.Logic.{_↔_, _⊎_, inl, inr, _≢_, Iff·trans}
 use mathlib.Core.Bool.{true, or-true}
 use Prim.Native.Nat.{ℕ, zero, suc, _≤_, _<_, min}
 use native.Mathlib.Decide.{ℕ-discrete}
@@ -16,7 +16,7 @@ use Rattle.lists.proofs.Members.{member-at, place-of}
 use Rattle.lists.proofs.Keep.{in-keep, rising-keep, length-keep, rank-at}
 use Rattle.lists.proofs.Table.{in-upTo, rising-upTo, length-upTo}
 use Rattle.jobs.specs.Job.{Equation, Job, equation}
-use Rattle.jobs.specs.Component.{Connects, forth, back, Chain, stay, onward, Joined, merged, lowestBy, lowest, leads, componentCount, component}
+use Rattle.jobs.specs.Component.{Connects, forth, back, Chain, stay, onward, Joined, Joins, merged, lowestBy, lowest, leads, componentCount, component}
 
 -- ---- chains of equations
 module _ {j : Job} where
@@ -40,23 +40,23 @@ module _ {j : Job} where
       turn (back a b) = forth a b
 
 -- ---- one equation more: p and q, the lowest variables of the groups that it joins, become the lower of them
-merged-one : (p q i : ℕ) → (i ≡ p) ⊎ (i ≡ q) → merged p q i ≡ min p q
+pub merged-one : (p q i : ℕ) → (i ≡ p) ⊎ (i ≡ q) → merged p q i ≡ min p q
 merged-one p q i (inl e) = rw (eq-eqb i p e)
 merged-one p q i (inr e) = rw (eq-eqb i q e, or-true (eqb i p))
 
 -- and every other stays
-data Merged (p q i : ℕ) : Type 0 where
+pub data Merged (p q i : ℕ) : Type 0 where
   first : i ≡ p → merged p q i ≡ min p q → Merged p q i
   second : i ≡ q → merged p q i ≡ min p q → Merged p q i
-  other : merged p q i ≡ i → Merged p q i
+  other : i ≢ p → i ≢ q → merged p q i ≡ i → Merged p q i
 
-merged-cases : (p q i : ℕ) → Merged p q i
+pub merged-cases : (p q i : ℕ) → Merged p q i
 merged-cases p q i = go (ℕ-discrete i p) (ℕ-discrete i q)
   where
     go : Dec (i ≡ p) → Dec (i ≡ q) → Merged p q i
     go (yes e) d = first e (merged-one p q i (inl e))
     go (no n) (yes e) = second e (merged-one p q i (inr e))
-    go (no n) (no m) = other (rw (ne-eqb i p n, ne-eqb i q m))
+    go (no n) (no m) = other n m (rw (ne-eqb i p n, ne-eqb i q m))
 
 merged-le : (p q i : ℕ) → merged p q i ≤ i
 merged-le p q i = go (merged-cases p q i)
@@ -64,7 +64,7 @@ merged-le p q i = go (merged-cases p q i)
     go : Merged p q i → merged p q i ≤ i
     go (first e l) = omega (arith, e, l)
     go (second e l) = omega (arith, e, l)
-    go (other l) = omega (arith, l)
+    go (other n m l) = omega (arith, l)
 
 merged-chain : {j : Job} {m : ℕ} (p q i : ℕ) → Chain j m p q → Chain j m i (merged p q i)
 merged-chain {j} {m} p q i s = go (merged-cases p q i)
@@ -75,7 +75,7 @@ merged-chain {j} {m} p q i s = go (merged-cases p q i)
     go : Merged p q i → Chain j m i (merged p q i)
     go (first e l) = rw (l, e) low
     go (second e l) = rw (l, e) (chain-then (chain-back s) low)
-    go (other l) = stay (sym l)
+    go (other n m l) = stay (sym l)
 
 -- ---- the lowest variable, along the first m equations
 module _ (j : Job) where
@@ -129,6 +129,9 @@ module _ (j : Job) where
     where
       from : lowestBy j m p ≡ lowestBy j m q → Chain j m p q
       from e = chain-then (chain-lowestBy m p) (rw e (chain-back (chain-lowestBy m q)))
+
+  pub joins-iff : (k : ℕ) → Joins j k ↔ (left k ≢ right k)
+  joins-iff k = let (to, from) = chain-iff k (equation j k .left) (equation j k .right) in (λ n e. n (from e), λ n c. n (to c))
 
   pub lowestBy-self : (m i : ℕ) → lowestBy j m (lowestBy j m i) ≡ lowestBy j m i
   lowestBy-self m i = sym (chain-same (chain-lowestBy m i))

@@ -19,6 +19,8 @@ pub mod Solutions
 pub mod Components
 -- from groups to the whole job and back
 pub mod Assembly
+-- where the best stands among the solutions
+pub mod Chosen
 -- numbers written in bytes read back
 pub mod Writing
 -- where the fields of a sheet stand

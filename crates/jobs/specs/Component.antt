@@ -24,6 +24,11 @@ pub data Chain (j : Job) (m p : ℕ) : ℕ → Type 0 where
 abbrev pub Joined : Job → ℕ → ℕ → Type 0
 Joined j = Chain j (length (j .equations))
 
+-- equation k joins two sets that the earlier ones left separate (proofs/Components.antt: exactly when its two variables have
+-- different lowest variables then)
+abbrev pub Joins : Job → ℕ → Type 0
+Joins j k = ¬ Chain j k (equation j k .left) (equation j k .right)
+
 -- ---- the same as a function: a group is named by its lowest variable (proofs/Components.antt: two variables are joined
 -- exactly when they have the same lowest variable, and it is joined to them and the lowest that is)
 

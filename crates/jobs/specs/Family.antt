@@ -44,7 +44,7 @@ unfolding table solutions
 step c = table (advance (solutions c)) (length (c .variables))
 
 -- have two lists the same numbers?
-abbrev agree : List ℤ → List ℤ → Bool
+abbrev pub agree : List ℤ → List ℤ → Bool
 agree [] [] = true
 agree [] (y ∷ ys) = false
 agree (x ∷ xs) [] = false
