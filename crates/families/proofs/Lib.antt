@@ -1,0 +1,7 @@
+-- The theorems, in the order in which they rest on each other. What they say to a
+-- reader stands in Invariants, Exact, Wholes and Plans; the planner's proofs also go by the steps before them.
+
+-- the best of one group: the last of its family where the gain is above 0, and the first elsewhere
+pub mod Choices
+-- the best of the whole job: the best of each group, put together
+pub mod Wholes
