@@ -1,6 +1,14 @@
 -- The theorems, in the order in which they rest on each other. What they say to a
 -- reader stands in Invariants, Exact, Wholes and Plans; the planner's proofs also go by the steps before them.
 
+-- part of a family: the members at some of its indices
+pub mod Parts
+-- an equation inside a group
+pub mod Cycles
+-- an equation between two groups
+pub mod Crossings
+-- what one equation leaves, in one form for both
+pub mod Kept
 -- the best of one group: the last of its family where the gain is above 0, and the first elsewhere
 pub mod Choices
 -- the best of the whole job: the best of each group, put together

@@ -2,3 +2,7 @@
 
 -- the solutions of a group as a family, and the choice in it
 pub mod Family
+-- the planner's steps as functions on lists
+pub mod Model
+-- what is known of the model's state after some of the equations
+pub mod Invariant
