@@ -9,6 +9,16 @@ pub mod Cycles
 pub mod Crossings
 -- what one equation leaves, in one form for both
 pub mod Kept
+-- the groups' labels, one equation more
+pub mod Labels
+-- one equation more, in general
+pub mod Advance
+-- the two ways in which an equation changes the runs
+pub mod Changes
+-- before any equation
+pub mod Begins
+-- the invariant after any number of equations
+pub mod Invariants
 -- the best of one group: the last of its family where the gain is above 0, and the first elsewhere
 pub mod Choices
 -- the best of the whole job: the best of each group, put together
