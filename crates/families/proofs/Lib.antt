@@ -19,7 +19,13 @@ pub mod Changes
 pub mod Begins
 -- the invariant after any number of equations
 pub mod Invariants
+-- the solutions of a group, in order, are the members of its family
+pub mod Listings
+-- the model ends in the definitions
+pub mod Exact
 -- the best of one group: the last of its family where the gain is above 0, and the first elsewhere
 pub mod Choices
 -- the best of the whole job: the best of each group, put together
 pub mod Wholes
+-- the best of a lawful job, by what the model ends in
+pub mod Plans
