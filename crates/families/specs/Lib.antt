@@ -6,3 +6,5 @@ pub mod Family
 pub mod Model
 -- what is known of the model's state after some of the equations
 pub mod Invariant
+-- small jobs through the model, and its pieces at worked values
+pub mod Vectors

@@ -1,0 +1,288 @@
+-- Small jobs, and pieces of the model, at worked values. What is expected of each was worked out by hand from document 01.
+use mathlib.Core.Path.{_≡_, refl, ap}
+use mathlib.Core.Bool.{Bool, true, false}
+use mathlib.Core.Option.{Option, none, some}
+use mathlib.Core.List.{List, [], _∷_, _++_, map}
+use Prim.Native.Nat.{ℕ, _+_, _*_, _-_}
+use lib.Dec.{eqb}
+use lib.ListN.{length}
+use lib.IntN.{ℤ, pos, negℤ}
+use Rattle.ints.specs.Floor.{floorDiv, floorMod}
+use Rattle.lists.specs.Members.{_∈_}
+use Rattle.lists.specs.Keep.{keep, place}
+use Rattle.lists.specs.Table.{table, upTo}
+use Rattle.lists.proofs.Maps.{same-values}
+use Rattle.runs.specs.declared.Run.{Run}
+use Rattle.runs.specs.declared.Equation.{Equation as Form}
+use Rattle.runs.specs.Run.{empty, full}
+use Rattle.jobs.specs.Bytes.{unsigned, u16}
+use Rattle.jobs.specs.Decide.{equal?, firstOf}
+use Rattle.jobs.specs.Job.{jobOf}
+use Rattle.jobs.specs.Component.{leads, componentCount}
+use Rattle.jobs.specs.Faults.{Answer, accepted, checked}
+use Rattle.jobs.specs.Verdict.{Verdict, planned, noFit, refused}
+use Rattle.jobs.specs.Demands.{baseOn, stepOn, groupOn, fitsOn}
+use Rattle.jobs.specs.Vectors.{Vector, fitted, vectors}
+use Rattle.families.specs.Family.{choice}
+use Rattle.families.specs.Model.{State, groupAt, runAt, interval, through, candidate, cycle, Indices, common, directed, kept, families}
+
+abbrev run : ℤ → ℤ → ℕ → Run
+run first step many = record { first = first; step = step; many = many }
+
+-- ---- document 01's jobs marked *
+-- the bytes of a job, and what is expected: of each count the lowest count of its group; how many groups there are; and of each
+-- count its base, its step and its group's fits
+pub record Worked : Type 0 where
+  pub job : List ℕ
+  pub groups : List ℕ
+  pub g : ℕ
+  pub runs : List Run
+
+-- four bytes of k and of −k, for k from 1 to 255; those of 0 are `plus 0`
+abbrev plus : ℕ → List ℕ
+plus k = k ∷ 0 ∷ 0 ∷ 0 ∷ []
+
+abbrev minus : ℕ → List ℕ
+minus k = (256 - k) ∷ 255 ∷ 255 ∷ 255 ∷ []
+
+-- n counts and m equations; where the equation rows begin, and where they end. All of them fit one byte, and so do left, right
+-- and c below.
+abbrev header : ℕ → ℕ → ℕ → ℕ → List ℕ
+header n m rows whole = 70 ∷ 73 ∷ 84 ∷ 49 ∷ n ∷ 0 ∷ m ∷ 0 ∷ 24 ∷ 0 ∷ 0 ∷ 0 ∷ rows ∷ 0 ∷ 0 ∷ 0 ∷ whole ∷ 0 ∷ 0 ∷ 0 ∷ 0 ∷ 0 ∷ 0 ∷ 0 ∷ []
+
+abbrev count : List ℕ → List ℕ → List ℕ → List ℕ
+count low high weight = low ++ high ++ weight
+
+-- 0..high, without weight
+abbrev plain : ℕ → List ℕ
+plain high = count (plus 0) (plus high) (plus 0)
+
+abbrev equation : ℕ → ℕ → List ℕ → List ℕ → ℕ → List ℕ
+equation left right a b c = left ∷ 0 ∷ right ∷ 0 ∷ [] ++ a ++ b ++ c ∷ 0 ∷ 0 ∷ 0 ∷ 0 ∷ 0 ∷ 0 ∷ 0 ∷ []
+
+-- c0 + c1 = c and c0 − c1 = c
+abbrev total : ℕ → List ℕ
+total c = equation 0 1 (plus 1) (plus 1) c
+
+abbrev difference : ℕ → List ℕ
+difference c = equation 0 1 (plus 1) (minus 1) c
+
+-- two counts with one equation, and with two
+abbrev once : List ℕ → List ℕ → List ℕ → List ℕ
+once count0 count1 tie = header 2 1 48 68 ++ count0 ++ count1 ++ tie
+
+abbrev twice : List ℕ → List ℕ → List ℕ → List ℕ → List ℕ
+twice count0 count1 tie tie′ = header 2 2 48 88 ++ count0 ++ count1 ++ tie ++ tie′
+
+abbrev jobM : List ℕ
+jobM =
+    header 4 2 72 112 ++
+    count (plus 0) (plus 20) (minus 30) ++
+    count (plus 0) (plus 200) (plus 4) ++
+    count (plus 0) (plus 9) (minus 10) ++
+    count (plus 2) (plus 5) (plus 0) ++
+    -- 16·c0 − c1 = 0
+    equation 0 1 (plus 16) (minus 1) 0 ++
+    -- 2·c0 − 3·c2 = 4
+    equation 0 2 (plus 2) (minus 3) 4
+
+-- −1,000,000,000..1,000,000,000, weight 1,000,000
+abbrev widest : List ℕ
+widest = header 1 0 36 36 ++ count (0 ∷ 54 ∷ 101 ∷ 196 ∷ []) (0 ∷ 202 ∷ 154 ∷ 59 ∷ []) (64 ∷ 66 ∷ 15 ∷ 0 ∷ [])
+
+-- what is expected of two counts in one group
+abbrev tied : List ℕ → Run → Run → Worked
+tied job run0 run1 = record { job = job; groups = 0 ∷ 0 ∷ []; g = 1; runs = run0 ∷ run1 ∷ [] }
+
+abbrev pub markedJobs : List Worked
+markedJobs =
+    -- M: c0 is 2, 5, 8 or 11; at 14 c1 would be over 200
+    record {
+      job = jobM;
+      groups = 0 ∷ 0 ∷ 0 ∷ 3 ∷ [];
+      g = 2;
+      runs = run (pos 2) (pos 3) 4 ∷ run (pos 32) (pos 48) 4 ∷ run (pos 0) (pos 2) 4 ∷ run (pos 2) (pos 1) 4 ∷ [];
+    } ∷
+    -- no counts
+    record { job = header 0 0 24 24; groups = []; g = 0; runs = [] } ∷
+    -- 2·c0 + 4·c1 = 7
+    tied (once (plain 9) (plain 9) (equation 0 1 (plus 2) (plus 4) 7)) empty empty ∷
+    -- 3·c0 − 5·c1 = 0: of 1..4 none is a multiple of 5
+    tied (once (count (plus 1) (plus 4) (plus 0)) (plain 9) (equation 0 1 (plus 3) (minus 5) 0)) empty empty ∷
+    -- a ring whose single candidate is 3½ and 1½, and one where it is 3 and 2
+    tied (twice (plain 9) (plain 9) (total 5) (difference 2)) empty empty ∷
+    tied (twice (plain 9) (plain 9) (total 5) (difference 1)) (run (pos 3) (pos 0) 1) (run (pos 2) (pos 0) 1) ∷
+    -- a ring that is redundant, and one that leaves none
+    tied (twice (plain 3) (plain 3) (difference 0) (difference 0)) (run (pos 0) (pos 1) 4) (run (pos 0) (pos 1) 4) ∷
+    tied (twice (plain 3) (plain 3) (difference 0) (difference 1)) empty empty ∷
+    -- c0 + 2·c1 = 0
+    tied (once (count (minus 5) (plus 5) (plus 0)) (count (minus 3) (plus 3) (plus 1)) (equation 0 1 (plus 1) (plus 2) 0))
+    (run (negℤ (pos 4)) (pos 2) 5) (run (pos 2) (negℤ (pos 1)) 5) ∷
+    -- the full range
+    record { job = widest; groups = 0 ∷ []; g = 1; runs = run (negℤ (pos 1000000000)) (pos 1) 2000000001 ∷ [] } ∷ []
+
+abbrev given : Worked → Answer × (State × ℕ)
+given v = (checked (v .job), (families (jobOf (v .job)), componentCount (jobOf (v .job))))
+
+abbrev expected : Worked → Answer × (State × ℕ)
+expected v = (accepted, (record { groups = v .groups; runs = v .runs }, v .g))
+
+marked-computed : map given markedJobs ≡ map expected markedJobs
+unfolding checked families jobOf leads unsigned table
+marked-computed = refl
+
+-- the job check accepts each of them, and the model gives what was worked out
+pub marked : (v : Worked) → v ∈ markedJobs →
+    (checked (v .job) ≡ accepted) × ((families (jobOf (v .job)) ≡ record { groups = v .groups; runs = v .runs }) × (componentCount (jobOf (v .job)) ≡ v .g))
+marked v h = let e = same-values given expected marked-computed h in (ap (λ p. p .0) e, (ap (λ p. p .1 .0) e, ap (λ p. p .1 .1) e))
+
+-- ---- the vectors of crate jobs
+-- the lowest variable of each group
+abbrev labels : State → List ℕ
+labels s = keep (λ i. eqb (groupAt s i) i) (upTo (length (s .groups)))
+
+-- what a sheet says: of each variable the lowest that stands in its group, and its run
+abbrev onSheet : Vector → State
+onSheet v =
+    let s = v .after in
+    let n = u16 s 4 in
+    record {
+      groups = table (λ i. place (λ k. eqb (groupOn s k) (groupOn s i)) (upTo n)) n;
+      runs = table (λ i. run (baseOn s i) (stepOn s i) (fitsOn (jobOf (v .job)) s (groupOn s i))) n;
+    }
+
+-- and the numbers of its groups
+abbrev groupsOn : Vector → List ℕ
+groupsOn v = upTo (u16 (v .after) 6)
+
+abbrev modelled : Vector → State × List ℕ
+modelled v = let s = families (jobOf (v .job)) in (s, map (groupOn (v .after)) (labels s))
+
+fitted-computed : map modelled fitted ≡ map (λ v. (onSheet v, groupsOn v)) fitted
+unfolding families jobOf unsigned keep place table
+fitted-computed = refl
+
+-- the model gives what stands on the sheet, where its groups, in the order of their lowest variables, are numbered from 0
+pub fitted-model : (v : Vector) → v ∈ fitted →
+    (families (jobOf (v .job)) ≡ onSheet v) × (map (groupOn (v .after)) (labels (families (jobOf (v .job)))) ≡ groupsOn v)
+fitted-model v h = let e = same-values modelled (λ v. (onSheet v, groupsOn v)) fitted-computed h in (ap (λ p. p .0) e, ap (λ p. p .1) e)
+
+-- the lowest variable of the first group without a solution
+abbrev firstEmpty : State → Option ℕ
+firstEmpty s = firstOf (λ l. equal? (runAt s l .many) 0) (labels s)
+
+-- what a verdict says of it
+abbrev named : Verdict → Option ℕ
+named (planned worth) = none
+named (noFit l) = some l
+named (refused reason row) = none
+
+abbrev isSought : Verdict → Bool
+isSought (planned worth) = true
+isSought (noFit l) = true
+isSought (refused reason row) = false
+
+-- those that are not refused, so that a fit was sought
+unfoldable pub sought : List Vector
+unfolding keep
+sought = keep (λ v. isSought (v .verdict)) vectors
+
+sought-computed : map (λ v. firstEmpty (families (jobOf (v .job)))) sought ≡ map (λ v. named (v .verdict)) sought
+unfolding sought families jobOf unsigned firstOf keep table
+sought-computed = refl
+
+-- the model has an empty group exactly where the verdict is no fit, and the first of them is the one that is named
+pub sought-model : (v : Vector) → v ∈ sought → firstEmpty (families (jobOf (v .job))) ≡ named (v .verdict)
+sought-model v h = same-values (λ v. firstEmpty (families (jobOf (v .job)))) (λ v. named (v .verdict)) sought-computed h
+
+-- ---- pieces
+-- a low above its high, a low that is its high, and −2..3
+intervals : (interval (pos 3) (pos 2) ≡ empty) × (interval (pos 3) (pos 3) ≡ run (pos 3) (pos 0) 1) ×
+    (interval (negℤ (pos 2)) (pos 3) ≡ run (negℤ (pos 2)) (pos 1) 6)
+intervals = (refl, refl, refl)
+
+-- 2, 5, 8, 11, 14
+abbrev five : Run
+five = run (pos 2) (pos 3) 5
+
+-- its second and fourth; the same the other way; its third alone; none
+parts : (through five (run (pos 1) (pos 2) 2) ≡ run (pos 5) (pos 6) 2) × (through five (run (pos 3) (negℤ (pos 2)) 2) ≡ run (pos 11) (negℤ (pos 6)) 2) ×
+    (through five (run (pos 2) (pos 0) 1) ≡ run (pos 8) (pos 0) 1) × (through five empty ≡ empty)
+parts = (refl, refl, refl, refl)
+
+-- 3·k = v for k below 4: k is 0 and 3 at the ends, then 4 and −1; the last two are not whole
+candidates : (candidate (pos 0) (pos 3) 4 ≡ run (pos 0) (pos 0) 1) × (candidate (pos 9) (pos 3) 4 ≡ run (pos 3) (pos 0) 1) ×
+    (candidate (pos 12) (pos 3) 4 ≡ empty) × (candidate (negℤ (pos 3)) (pos 3) 4 ≡ empty) ×
+    (candidate (pos 7) (pos 3) 4 ≡ empty) × (candidate (negℤ (pos 1)) (pos 3) 4 ≡ empty)
+unfolding floorDiv floorMod
+candidates = (refl, refl, refl, refl, refl, refl)
+
+-- −2·k = v: k is 3, then −1, then 3½
+candidates-down : (candidate (negℤ (pos 6)) (negℤ (pos 2)) 4 ≡ run (pos 3) (pos 0) 1) × (candidate (pos 2) (negℤ (pos 2)) 4 ≡ empty) ×
+    (candidate (negℤ (pos 7)) (negℤ (pos 2)) 4 ≡ empty)
+unfolding floorDiv floorMod
+candidates-down = (refl, refl, refl)
+
+-- a·p + b·q = c
+abbrev by : ℤ → ℤ → ℤ → Form
+by a b c = record { a = a; b = b; c = c }
+
+-- p = 0, .., 5 with q = p: p − q = 0 is redundant, p − q = 1 leaves none, and p + q = 6 leaves 3 and 3
+abbrev up : Run
+up = run (pos 0) (pos 1) 6
+
+cycles : (cycle (by (pos 1) (negℤ (pos 1)) (pos 0)) up up ≡ none) × (cycle (by (pos 1) (negℤ (pos 1)) (pos 1)) up up ≡ some empty) ×
+    (cycle (by (pos 1) (pos 1) (pos 6)) up up ≡ some (run (pos 3) (pos 0) 1))
+unfolding floorDiv floorMod
+cycles = (refl, refl, refl)
+
+-- p = 0, .., 5 with q = 5 − p: p − q = 1 leaves 3 and 2; p − q = 2 would be met at 3½ and p − q = 7 at 6
+abbrev down : Run
+down = run (pos 5) (negℤ (pos 1)) 6
+
+cycles-down : (cycle (by (pos 1) (negℤ (pos 1)) (pos 1)) up down ≡ some (run (pos 3) (pos 0) 1)) ×
+    (cycle (by (pos 1) (negℤ (pos 1)) (pos 2)) up down ≡ some empty) × (cycle (by (pos 1) (negℤ (pos 1)) (pos 7)) up down ≡ some empty)
+unfolding floorDiv floorMod
+cycles-down = (refl, refl, refl)
+
+abbrev beside : Run → Run → Indices
+beside left right = record { left = left; right = right }
+
+-- 1, 3, 5 beside 4, 3, 2: as they are where the left is to rise; 5, 3, 1 beside 2, 3, 4 where the right is
+abbrev crossing : Indices
+crossing = beside (run (pos 1) (pos 2) 3) (run (pos 4) (negℤ (pos 1)) 3)
+
+directions : (directed true crossing ≡ crossing) × (directed false crossing ≡ beside (run (pos 5) (negℤ (pos 2)) 3) (run (pos 2) (pos 1) 3))
+directions = (refl, refl)
+
+-- p + 2·q = 0 for p = −5, .., 5 and q = −3, .., 3: p = −4, −2, .., 4 stand at 1, 3, .., 9, and their q = 2, 1, .., −2 at
+-- 5, 4, .., 1. The lower group is that of p, and then that of q; in the last two p, and then q, stands in falling order.
+abbrev slanted : Form
+slanted = by (pos 1) (pos 2) (pos 0)
+
+abbrev rising : ℕ → Run
+rising k = run (negℤ (pos k)) (pos 1) (2 * k + 1)
+
+abbrev falling : ℕ → Run
+falling k = run (pos k) (negℤ (pos 1)) (2 * k + 1)
+
+joins : (kept slanted 0 1 (rising 5) (rising 3) ≡ some (beside (run (pos 1) (pos 2) 5) (run (pos 5) (negℤ (pos 1)) 5))) ×
+    (kept slanted 1 0 (rising 5) (rising 3) ≡ some (beside (run (pos 9) (negℤ (pos 2)) 5) (run (pos 1) (pos 1) 5))) ×
+    (kept slanted 0 1 (falling 5) (rising 3) ≡ some (beside (run (pos 1) (pos 2) 5) (run (pos 1) (pos 1) 5))) ×
+    (kept slanted 1 0 (rising 5) (falling 3) ≡ some (beside (run (pos 1) (pos 2) 5) (run (pos 1) (pos 1) 5)))
+unfolding kept
+joins = (refl, refl, refl, refl)
+
+-- 2·p + 4·q = 7 has none
+joins-none : kept (by (pos 2) (pos 4) (pos 7)) 0 1 (rising 5) (rising 3) ≡ some (beside empty empty)
+unfolding kept
+joins-none = refl
+
+-- document 01: 1,000,000·c0 − 999,999·c1 = 1 over the full range
+longest : common (by (pos 1000000) (negℤ (pos 999999)) (pos 1)) full full ≡ run (negℤ (pos 999998999)) (pos 999999) 2000
+unfolding common
+longest = refl
+
+-- a gain, none and a loss
+choices : (choice (pos 82) 4 ≡ 3) × ((choice (pos 0) 4 ≡ 0) × ((choice (negℤ (pos 1)) 5 ≡ 0) × (choice (pos 5) 1 ≡ 0)))
+choices = (refl, (refl, (refl, refl)))
