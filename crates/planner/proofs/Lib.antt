@@ -1,5 +1,13 @@
 -- The laws that the proofs of the functions go by.
 
+-- a pass over an array
+pub mod Passes
+-- two labels that become one
+pub mod Merging
+-- how many numbers pass a test
+pub mod Counting
+-- whether an equation joins two sets
+pub mod Joining
 -- how large the numbers of a family are
 pub mod Sizes
 -- how large the numbers are through which an equation between two families goes

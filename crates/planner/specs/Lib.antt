@@ -1,5 +1,11 @@
 -- What the contracts cite. Read in this order.
 
+-- what an array holds
+pub mod Arrays
+-- the job with other bounds
+pub mod Bounds
+-- groups as a list of labels
+pub mod Groups
 -- what the program's enums and structs of one step say
 pub mod Steps
 -- how large the numbers are

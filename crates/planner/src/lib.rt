@@ -8,3 +8,13 @@ mod parts;
 mod cycle;
 // an equation between two groups
 mod join;
+// groups, by their lowest variables
+mod groups;
+// bounds, and where every variable begins
+mod range;
+
+/// A variable's bounds. They come to the planner apart from the job's bytes, so that the same job can be planned with others.
+pub struct Bounds {
+    pub low: i64,
+    pub high: i64,
+}
