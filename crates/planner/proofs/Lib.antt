@@ -12,3 +12,11 @@ pub mod Joining
 pub mod Sizes
 -- how large the numbers are through which an equation between two families goes
 pub mod Meeting
+-- the arrays follow the model
+pub mod Stepping
+-- a job with other bounds
+pub mod Rebounding
+-- the rows of a lawful job
+pub mod Rows
+-- the arrays follow the model, for bytes and bounds
+pub mod Following

@@ -7,7 +7,10 @@ ghost use lib.Dec.{eqb};
 ghost use lib.ListN.{length, getD};
 ghost use Rattle.lists.specs.Keep.{keep};
 ghost use Rattle.lists.specs.Table.{upTo};
-ghost use Rattle.planner.specs.Groups.{Apart, Labelled, Merges};
+ghost use Rattle.jobs.specs.Job.{jobOf, variableCount, equationCount};
+ghost use Rattle.jobs.proofs.Lawful.{Lawful};
+ghost use Rattle.planner.specs.Groups.{Apart, Labelled, Merges, Labels};
+use jobs::Equation;
 
 // Does an equation between variables of these groups join two sets that earlier rows left separate?
 pub(crate) fn joins(left: u16, right: u16) -> bool
@@ -69,6 +72,29 @@ fn renamed(groups: [u16; 256], high: u16, low: u16, n: usize) -> [u16; 256]
         i += 1;
     }
     out
+}
+
+// The lowest variable that the m equations of a job join to each of its n variables.
+pub(crate) fn lowest(job: &[u8], n: usize, m: usize) -> [u16; 256]
+    requires { ⌜ Lawful (now job) ⌝ }
+    requires { ⌜ n ≡ variableCount (now job) ⌝ }
+    requires { ⌜ m ≡ equationCount (now job) ⌝ }
+    ensures { λ r. ⌜ Labels (jobOf (now (job .entry))) m n r ⌝ }
+{
+    let mut groups = apart();
+    let mut k: usize = 0;
+    while k < m {
+        let e = Equation::read(job, n, k);
+        let left = e.left;
+        let right = e.right;
+        let l = groups[left];
+        let r = groups[right];
+        if joins(l, r) {
+            groups = joined(groups, l, r, n);
+        }
+        k += 1;
+    }
+    groups
 }
 
 // How many groups n variables are in: 01's g.
