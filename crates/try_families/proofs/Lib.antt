@@ -1,0 +1,4 @@
+-- The laws that the proofs of this program share.
+
+-- numbers of one byte: differences, products and their sums fit
+pub mod Bytes

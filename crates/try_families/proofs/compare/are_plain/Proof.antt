@@ -1,0 +1,54 @@
+-- `try_families::compare::are_plain` meets its contract.
+use Prim.Native.Nat.{_-_, _≤_}
+use borrow.Author.Needs.{needs}
+use Rattle.try_families.proofs.compare.are_plain.Statement.{statement}
+use Rattle.try_families.proofs.compare.are_plain.Tie as tie
+
+abbrev Inv-loop : tie.InvT-loop
+Inv-loop b labels s n i₀ i = (n ≤ 5) × (i ≤ n)
+
+abbrev μ-loop : tie.MeasureT-loop
+μ-loop b labels s n i₀ i = n - i
+
+variables-requires : tie.Need-variables-requires Inv-loop μ-loop
+variables-requires c κs = search needs
+
+loop-holds : tie.Need-loop-holds Inv-loop μ-loop
+loop-holds c = search needs
+
+plain-line-requires : tie.Need-plain-line-requires Inv-loop μ-loop
+plain-line-requires c κs = search needs
+
+is-at-requires : tie.Need-is-at-requires Inv-loop μ-loop
+is-at-requires c κs = search needs
+
+returns : tie.Need-returns Inv-loop μ-loop
+returns c = search needs
+
+add-i : tie.Need-add-i Inv-loop μ-loop
+add-i c = search needs
+
+loop-less : tie.Need-loop-less Inv-loop μ-loop
+loop-less c = search needs
+
+loop-again : tie.Need-loop-again Inv-loop μ-loop
+loop-again c = search needs
+
+returns-2 : tie.Need-returns-2 Inv-loop μ-loop
+returns-2 c = search needs
+
+pub are-plain-spec : {M : Type 1} → statement M
+are-plain-spec =
+    tie.close
+    (tie.spec
+    Inv-loop
+    μ-loop
+    variables-requires
+    loop-holds
+    plain-line-requires
+    is-at-requires
+    returns
+    add-i
+    loop-less
+    loop-again
+    returns-2)

@@ -1,0 +1,46 @@
+-- `try_families::job::equations` meets its contract.
+use Prim.Native.Nat.{_-_, _≤_}
+use borrow.Author.Needs.{needs}
+use Rattle.try_families.proofs.job.equations.Statement.{statement}
+use Rattle.try_families.proofs.job.equations.Tie as tie
+
+abbrev Inv-loop : tie.InvT-loop
+Inv-loop b₀ t n m k₀ b k = k ≤ m
+
+abbrev μ-loop : tie.MeasureT-loop
+μ-loop b₀ t n m k₀ b k = m - k
+
+loop-holds : tie.Need-loop-holds Inv-loop μ-loop
+loop-holds c = search needs
+
+row-at-requires : tie.Need-row-at-requires Inv-loop μ-loop
+row-at-requires c κs = search needs
+
+equation-requires : tie.Need-equation-requires Inv-loop μ-loop
+equation-requires c κs = search needs
+
+add-k : tie.Need-add-k Inv-loop μ-loop
+add-k c = search needs
+
+loop-less : tie.Need-loop-less Inv-loop μ-loop
+loop-less c = search needs
+
+loop-again : tie.Need-loop-again Inv-loop μ-loop
+loop-again c = search needs
+
+returns : tie.Need-returns Inv-loop μ-loop
+returns c = search needs
+
+pub equations-spec : {M : Type 1} → statement M
+equations-spec =
+    tie.close
+    (tie.spec
+    Inv-loop
+    μ-loop
+    loop-holds
+    row-at-requires
+    equation-requires
+    add-k
+    loop-less
+    loop-again
+    returns)

@@ -1,0 +1,46 @@
+-- `try_families::long::variables` meets its contract.
+use Prim.Native.Nat.{_-_, _≤_}
+use borrow.Author.Needs.{needs}
+use Rattle.try_families.proofs.long.variables.Statement.{statement}
+use Rattle.try_families.proofs.long.variables.Tie as tie
+
+abbrev Inv-loop : tie.InvT-loop
+Inv-loop b₀ i₀ b i = i ≤ 256
+
+abbrev μ-loop : tie.MeasureT-loop
+μ-loop b₀ i₀ b i = 256 - i
+
+loop-holds : tie.Need-loop-holds Inv-loop μ-loop
+loop-holds c = search needs
+
+bits-requires : tie.Need-bits-requires Inv-loop μ-loop
+bits-requires c κs = search needs
+
+variable-requires : tie.Need-variable-requires Inv-loop μ-loop
+variable-requires c κs = search needs
+
+add-i : tie.Need-add-i Inv-loop μ-loop
+add-i c = search needs
+
+loop-less : tie.Need-loop-less Inv-loop μ-loop
+loop-less c = search needs
+
+loop-again : tie.Need-loop-again Inv-loop μ-loop
+loop-again c = search needs
+
+returns : tie.Need-returns Inv-loop μ-loop
+returns c = search needs
+
+pub variables-spec : {M : Type 1} → statement M
+variables-spec =
+    tie.close
+    (tie.spec
+    Inv-loop
+    μ-loop
+    loop-holds
+    bits-requires
+    variable-requires
+    add-i
+    loop-less
+    loop-again
+    returns)

@@ -1,0 +1,269 @@
+//! Document 01's groups and families by plain enumeration, from the job's bytes: for jobs of at most 5 variables, with at most 32,768
+//! points within a group's bounds, where every number is within -128..=127, so that its lowest byte says all of it.
+
+ghost use Prim.Native.Nat.{_≤_};
+ghost use Rattle.ints.specs.Within.{Within};
+use crate::job::Buffer;
+
+/// For each variable the lowest one that is joined to it.
+pub type Labels = [u8; 5];
+
+/// What one variable is in the solutions found so far: in the first and in the last one, from the first to the second, in how many,
+/// and whether it moves by the same step from each to the next.
+pub struct Found {
+    pub first: u8,
+    pub last: u8,
+    pub step: i64,
+    pub many: u32,
+    pub even: bool,
+}
+
+// ---- the job's bytes
+
+fn byte(b: &Buffer, at: usize) -> u8 {
+    if at < b.len() { b[at] } else { 0 }
+}
+
+/// How many variables, as far as this module goes.
+pub fn variables(b: &Buffer) -> usize
+    ensures { λ r. ⌜ r ≤ 5 ⌝ }
+{
+    let n = byte(b, 4) as usize;
+    if n < 5 { n } else { 5 }
+}
+
+fn low(b: &Buffer, i: usize) -> u8
+    requires { ⌜ i ≤ 5 ⌝ }
+{
+    byte(b, 24 + 12 * i)
+}
+
+fn high(b: &Buffer, i: usize) -> u8
+    requires { ⌜ i ≤ 5 ⌝ }
+{
+    byte(b, 28 + 12 * i)
+}
+
+// Where row k begins.
+fn row(b: &Buffer, k: u8) -> usize
+    ensures { λ r. ⌜ r ≤ 10000 ⌝ }
+{
+    24 + 12 * byte(b, 4) as usize + 20 * k as usize
+}
+
+/// A byte in two's complement.
+pub fn signed(x: u8) -> i64
+    ensures { λ r. ⌜ Within 128 r ⌝ }
+{
+    if x < 128 { x as i64 } else { x as i64 - 256 }
+}
+
+/// x and some more, as bytes.
+pub fn sum(x: u8, more: u64) -> u8 {
+    ((x as u64 + more % 256) % 256) as u8
+}
+
+/// a·x + b·y
+pub fn combined(a: u8, x: u8, b: u8, y: u8) -> i64 {
+    signed(a) * signed(x) + signed(b) * signed(y)
+}
+
+// ---- groups
+
+/// Each variable begins with its own number. Along an equation the lower number is taken over, so many times that it can come
+/// from any variable to any other.
+pub fn labels(b: &Buffer) -> Labels {
+    let mut labels: Labels = [0, 1, 2, 3, 4];
+    let mut i: u8 = 0;
+    while i < 5 {
+        let next = passed_on(b, labels);
+        labels = next;
+        i += 1;
+    }
+    labels
+}
+
+fn passed_on(b: &Buffer, labels: Labels) -> Labels {
+    let mut out = labels;
+    let m = byte(b, 6);
+    let mut k: u8 = 0;
+    while k < m {
+        let at = row(b, k);
+        let left = byte(b, at) as usize;
+        let right = byte(b, at + 2) as usize;
+        let one = lowered(out, left, label(out, right));
+        let both = lowered(one, right, label(one, left));
+        out = both;
+        k += 1;
+    }
+    out
+}
+
+pub fn label(labels: Labels, i: usize) -> u8 {
+    if i < 5 { labels[i] } else { 255 }
+}
+
+fn lowered(labels: Labels, i: usize, x: u8) -> Labels {
+    let mut out = labels;
+    if x < label(labels, i) {
+        if i < 5 {
+            out[i] = x;
+        }
+    }
+    out
+}
+
+/// How many groups.
+pub fn groups(b: &Buffer, labels: Labels) -> usize {
+    let n = variables(b);
+    let mut g: usize = 0;
+    let mut i: usize = 0;
+    while i < n {
+        g += one_if(label(labels, i) as usize == i);
+        i += 1;
+    }
+    g
+}
+
+pub fn one_if(test: bool) -> usize
+    ensures { λ r. ⌜ r ≤ 1 ⌝ }
+{
+    if test { 1 } else { 0 }
+}
+
+// ---- families
+
+/// Variable i in all solutions of its group, in their order: the number at the group's lowest variable decides first.
+pub fn family(b: &Buffer, labels: Labels, i: usize) -> Found {
+    let g = label(labels, i);
+    let mut found = nothing();
+    let mut code: u64 = 0;
+    while code < 32768 {
+        let p = decoded(b, labels, g, code);
+        if p.past {
+            return found;
+        }
+        if holds(b, labels, g, p) {
+            found = found.with(p.get(i));
+        }
+        code += 1;
+    }
+    found
+}
+
+/// A number within its bounds for each variable of a group; or the codes are past the last such point.
+struct Point {
+    at: [u8; 5],
+    past: bool,
+}
+
+impl Point {
+    fn get(self, i: usize) -> u8 {
+        if i < 5 { self.at[i] } else { 0 }
+    }
+}
+
+// A code has a digit for each variable, the last one's lowest: how far it stands above its low.
+fn decoded(b: &Buffer, labels: Labels, g: u8, code: u64) -> Point {
+    let mut at: [u8; 5] = [0; 5];
+    let mut rest = code;
+    let mut i = variables(b);
+    while 0 < i {
+        i -= 1;
+        let w = width(b, labels, g, i);
+        if w == 0 {
+            return Point { at: at, past: true };
+        }
+        at[i] = sum(low(b, i), rest % w);
+        rest = rest / w;
+    }
+    Point {
+        at: at,
+        past: 0 < rest,
+    }
+}
+
+// How many numbers a variable of the group has. The others stay at their lows.
+fn width(b: &Buffer, labels: Labels, g: u8, i: usize) -> u64
+    requires { ⌜ i ≤ 5 ⌝ }
+{
+    if label(labels, i) != g {
+        return 1;
+    }
+    let low = low(b, i);
+    let high = high(b, i);
+    if signed(high) < signed(low) {
+        return 0;
+    }
+    (256 + high as u64 - low as u64) % 256 + 1
+}
+
+// Every equation of the group.
+fn holds(b: &Buffer, labels: Labels, g: u8, p: Point) -> bool {
+    let m = byte(b, 6);
+    let mut k: u8 = 0;
+    while k < m {
+        let at = row(b, k);
+        if label(labels, byte(b, at) as usize) == g {
+            if !row_holds(b, at, p) {
+                return false;
+            }
+        }
+        k += 1;
+    }
+    true
+}
+
+fn row_holds(b: &Buffer, at: usize, p: Point) -> bool
+    requires { ⌜ at ≤ 10000 ⌝ }
+{
+    let x = p.get(byte(b, at) as usize);
+    let y = p.get(byte(b, at + 2) as usize);
+    combined(byte(b, at + 4), x, byte(b, at + 8), y) == signed(byte(b, at + 12))
+}
+
+fn nothing() -> Found {
+    Found {
+        first: 0,
+        last: 0,
+        step: 0,
+        many: 0,
+        even: true,
+    }
+}
+
+fn gap(x: u8, y: u8) -> i64 {
+    signed(y) - signed(x)
+}
+
+impl Found {
+    // In one solution more.
+    fn with(self, x: u8) -> Found {
+        if self.many == 0 {
+            return Found {
+                first: x,
+                last: x,
+                step: 0,
+                many: 1,
+                even: true,
+            };
+        }
+        let way = gap(self.last, x);
+        if self.many == 1 {
+            return Found {
+                first: self.first,
+                last: x,
+                step: way,
+                many: 2,
+                even: true,
+            };
+        }
+        Found {
+            first: self.first,
+            last: x,
+            step: self.step,
+            many: std::num::wrapping_add_u32(self.many, 1),
+            even: if way == self.step { self.even } else { false },
+        }
+    }
+}
