@@ -121,26 +121,29 @@ markedJobs =
     -- the full range
     record { job = widest; groups = 0 ∷ []; g = 1; runs = run (negℤ (pos 1000000000)) (pos 1) 2000000001 ∷ [] } ∷ []
 
-abbrev given : Worked → Answer × (State × ℕ)
-given v = (checked (v .job), (families (jobOf (v .job)), componentCount (jobOf (v .job))))
-
-abbrev expected : Worked → Answer × (State × ℕ)
-expected v = (accepted, (record { groups = v .groups; runs = v .runs }, v .g))
-
-marked-computed : map given markedJobs ≡ map expected markedJobs
-unfolding checked families jobOf leads unsigned table
-marked-computed = refl
-
--- the job check accepts each of them, and the model gives what was worked out
-pub marked : (v : Worked) → v ∈ markedJobs →
-    (checked (v .job) ≡ accepted) × ((families (jobOf (v .job)) ≡ record { groups = v .groups; runs = v .runs }) × (componentCount (jobOf (v .job)) ≡ v .g))
-marked v h = let e = same-values given expected marked-computed h in (ap (λ p. p .0) e, (ap (λ p. p .1 .0) e, ap (λ p. p .1 .1) e))
-
--- ---- the vectors of crate jobs
 -- the lowest variable of each group
-abbrev labels : State → List ℕ
+abbrev pub labels : State → List ℕ
 labels s = keep (λ i. eqb (groupAt s i) i) (upTo (length (s .groups)))
 
+abbrev given : Worked → Answer × (State × (ℕ × ℕ))
+given v = let s = families (jobOf (v .job)) in (checked (v .job), (s, (length (labels s), componentCount (jobOf (v .job)))))
+
+abbrev expected : Worked → Answer × (State × (ℕ × ℕ))
+expected v = (accepted, (record { groups = v .groups; runs = v .runs }, (v .g, v .g)))
+
+marked-computed : map given markedJobs ≡ map expected markedJobs
+unfolding checked families jobOf leads keep unsigned table
+marked-computed = refl
+
+-- the job check accepts each of them, the model gives what was worked out, and as many groups as the definition
+pub marked : (v : Worked) → v ∈ markedJobs →
+    (checked (v .job) ≡ accepted) × ((families (jobOf (v .job)) ≡ record { groups = v .groups; runs = v .runs }) ×
+    ((length (labels (families (jobOf (v .job)))) ≡ v .g) × (componentCount (jobOf (v .job)) ≡ v .g)))
+marked v h =
+    let e = same-values given expected marked-computed h in
+    (ap (λ p. p .0) e, (ap (λ p. p .1 .0) e, (ap (λ p. p .1 .1 .0) e, ap (λ p. p .1 .1 .1) e)))
+
+-- ---- the vectors of crate jobs
 -- what a sheet says: of each variable the lowest that stands in its group, and its run
 abbrev onSheet : Vector → State
 onSheet v =
