@@ -82,7 +82,7 @@ module _ (low high : ℤ) where
 
 -- ---- the state before any equation
 module _ (j : Job) where
-  abbrev startRun : ℕ → Run
+  abbrev pub startRun : ℕ → Run
   startRun i = meetModel full (interval (variable j i .low) (variable j i .high))
 
   start-groups : start j .groups ≡ upTo (length (j .variables))
@@ -96,10 +96,10 @@ module _ (j : Job) where
   pub start-lengths : (length (start j .groups) ≡ length (j .variables)) × (length (start j .runs) ≡ length (j .variables))
   start-lengths = (ap length start-groups ∙ length-upTo (length (j .variables)), ap length start-runs ∙ length-table startRun (length (j .variables)))
 
-  run-at : (i : ℕ) → i < length (j .variables) → runAt (start j) i ≡ startRun i
+  pub run-at : (i : ℕ) → i < length (j .variables) → runAt (start j) i ≡ startRun i
   run-at i h = ap (λ rs. getD rs i empty) start-runs ∙ table-at startRun (length (j .variables)) i empty h
 
-  group-at : (i : ℕ) → i < length (j .variables) → groupAt (start j) i ≡ i
+  pub group-at : (i : ℕ) → i < length (j .variables) → groupAt (start j) i ≡ i
   group-at i h = ap (λ gs. getD gs i 0) start-groups ∙ table-at (λ i. i) (length (j .variables)) i 0 h
 
   own : (i : ℕ) → lowestBy j 0 i ≡ i

@@ -8,7 +8,7 @@ use Prim.Native.Nat.{ℕ, suc, _≤_, _<_}
 use native.Mathlib.Decide.{ℕ-discrete}
 use lib.Dec.{ltb}
 use lib.ListN.{length}
-use borrow.Author.Tests.{ltb-true, ltb-false, eq-eqb, ne-eqb}
+use borrow.Author.Tests.{ltb-true, ltb-false}
 use Rattle.ints.proofs.{ℤ, pos, _+ℤ_, _*ℤ_, _≤ℤ_, _<ℤ_, arith, lin, _&_, facts, prod}
 use Rattle.runs.specs.declared.Run.{Run}
 use Rattle.runs.specs.Run.{nth}
@@ -19,7 +19,7 @@ use Rattle.jobs.specs.Solution.{number, value}
 use Rattle.jobs.specs.Component.{lowestBy}
 use Rattle.families.specs.Model.{leading, State, runAt, Indices, through, runAfter}
 use Rattle.families.specs.Invariant.{IsMember, OnFamily, Invariant}
-use Rattle.families.proofs.Parts.{Holds, Picks, pick, pick-is, pick-below, same-nat, two-to-pick, through-many, through-step, through-at, through-form}
+use Rattle.families.proofs.Parts.{after-left, after-right, after-other, Holds, Picks, pick, pick-is, pick-below, same-nat, two-to-pick, through-many, through-step, through-at, through-form}
 use Rattle.families.proofs.Crossings.{At}
 use Rattle.families.proofs.Kept.{Leaves}
 use Rattle.families.proofs.Labels.{leftGroup, rightGroup, newGroup, InEither, Relabelled, from-left, from-right, stays, relabelled, new-is, to-new, from-new}
@@ -126,17 +126,17 @@ module _ {j : Job} {m : ℕ} {s : State} (named : Named j m) (inv : Invariant j 
   module _ {ix : Indices} (L : Leaves (form (equation j m)) (leftGroup j m) (rightGroup j m) P Q ix) {run′ : ℕ → Run}
       (is : (i : ℕ) → i < length (j .variables) → run′ i ≡ runAfter (leftGroup j m) (rightGroup j m) ix (lowestBy j m i) (runAt s i)) where
     in-left : (i : ℕ) → i < length (j .variables) → lowestBy j m i ≡ leftGroup j m → run′ i ≡ through (runAt s i) (ix .left)
-    in-left i h e = is i h ∙ rw (eq-eqb (lowestBy j m i) (leftGroup j m) e) refl
+    in-left i h e = is i h ∙ after-left (leftGroup j m) (rightGroup j m) ix (lowestBy j m i) (runAt s i) e
 
     in-right : (i : ℕ) → i < length (j .variables) → lowestBy j m i ≡ rightGroup j m → run′ i ≡ through (runAt s i) (ix .right)
     in-right i h e = go (ℕ-discrete (lowestBy j m i) (leftGroup j m))
       where
         go : Dec (lowestBy j m i ≡ leftGroup j m) → run′ i ≡ through (runAt s i) (ix .right)
         go (yes l) = in-left i h l ∙ ap (through (runAt s i)) (L .one (sym l ∙ e))
-        go (no n) = is i h ∙ rw (ne-eqb (lowestBy j m i) (leftGroup j m) n, eq-eqb (lowestBy j m i) (rightGroup j m) e) refl
+        go (no n) = is i h ∙ after-right (leftGroup j m) (rightGroup j m) ix (lowestBy j m i) (runAt s i) n e
 
     elsewhere : (i : ℕ) → i < length (j .variables) → lowestBy j m i ≢ leftGroup j m → lowestBy j m i ≢ rightGroup j m → run′ i ≡ runAt s i
-    elsewhere i h a b = is i h ∙ rw (ne-eqb (lowestBy j m i) (leftGroup j m) a, ne-eqb (lowestBy j m i) (rightGroup j m) b) refl
+    elsewhere i h a b = is i h ∙ after-other (leftGroup j m) (rightGroup j m) ix (lowestBy j m i) (runAt s i) a b
 
     left : Side j m s run′ (leftGroup j m) (ix .left)
     left = record { below = left-below named; self = left-self named; picks = subst (Picks (ix .left)) left-many (L .left); taken = in-left }

@@ -6,7 +6,7 @@ use mathlib.Core.Bool.{Bool, true, false, cond}
 use Prim.Native.Nat.{ℕ, _-_, _≤_, _<_}
 use native.Mathlib.Decide.{ℕ-discrete}
 use lib.ListN.{length, getD}
-use Rattle.ints.proofs.{ℤ, pos, _+ℤ_, _*ℤ_, _≤ℤ_, _<ℤ_, ltZ, List, [], _∷_, arith, lin, lin₀, _&_, facts, prod, le-or-lt}
+use Rattle.ints.proofs.{ℤ, pos, _+ℤ_, _*ℤ_, _≤ℤ_, _<ℤ_, ltZ, List, [], _∷_, arith, lin, lin₀, facts, le-or-lt}
 use Rattle.ints.proofs.Order.{lt-true, lt-false, le-antisym}
 use Rattle.lists.specs.Table.{table}
 use Rattle.lists.specs.Lexicographic.{Lower}
@@ -19,6 +19,7 @@ use Rattle.jobs.specs.Solution.{number, IsSolution, solutions, objective, Earli
 use Rattle.jobs.specs.Family.{fits, base, step, chosen, slope}
 use Rattle.jobs.proofs.Solutions.{in-solutions, rising-solutions, best-only}
 use Rattle.jobs.proofs.Chosen.{chosen-at}
+use Rattle.families.proofs.Lines.{line-up, line-down, line-level, pos-below}
 use Rattle.families.specs.Family.{member, choice}
 
 -- ---- the objective along a family
@@ -49,22 +50,6 @@ objective-member c k =
     each i h =
         ap (λ t. w i *ℤ t) (table-at (λ i. number (base c) i +ℤ number (step c) i *ℤ pos k) n i (pos 0) h)
         ∙ weighed (w i) (number (base c) i) (number (step c) i) (pos k)
-
--- ---- a line that rises, one that falls, and a level one
-next : {x y : ℤ} → x <ℤ y → (x +ℤ pos 1) ≤ℤ y
-next {x} {y} h = lin (x ∷ y ∷ []) h (search facts depth 20) (omega arith)
-
-line-up : (w g x y : ℤ) → pos 0 <ℤ g → x <ℤ y → (w +ℤ g *ℤ x) <ℤ (w +ℤ g *ℤ y)
-line-up w g x y h l = lin (w ∷ g ∷ x ∷ y ∷ []) (prod (next h) (next l) & h & l) (search facts depth 20) (omega arith)
-
-line-down : (w g x y : ℤ) → g <ℤ pos 0 → x <ℤ y → (w +ℤ g *ℤ y) <ℤ (w +ℤ g *ℤ x)
-line-down w g x y h l = lin (w ∷ g ∷ x ∷ y ∷ []) (prod (next h) (next l) & h & l) (search facts depth 20) (omega arith)
-
-line-level : (w g x y : ℤ) → g ≡ pos 0 → w +ℤ g *ℤ x ≡ w +ℤ g *ℤ y
-line-level w g x y e = rw e (lin₀ (w ∷ x ∷ y ∷ []) (search facts depth 20) (omega arith))
-
-pos-below : {i k : ℕ} → i < k → pos i <ℤ pos k
-pos-below {i} {k} h = lin (pos i ∷ pos k ∷ []) h (search facts depth 20) (omega arith)
 
 -- ---- the choice
 choice-up : (g : ℤ) (n : ℕ) → pos 0 <ℤ g → choice g n ≡ n - 1

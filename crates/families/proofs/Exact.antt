@@ -24,7 +24,7 @@ use Rattle.jobs.proofs.Assembly.{component-length, fits-iff}
 use Rattle.families.specs.Family.{member, IsFamily, familyRun}
 use Rattle.families.specs.Model.{State, groupAt, runAt, families}
 use Rattle.families.specs.Invariant.{Invariant}
-use Rattle.families.proofs.Invariants.{Sized, invariant, reached}
+use Rattle.families.proofs.Invariants.{invariant}
 use Rattle.families.proofs.Listings.{lowest-is, ownRun, own-inside, own-outside, listed, listed-at, solutions-listed}
 
 -- ---- lists: what is read off them
@@ -172,10 +172,6 @@ module _ (j : Job) (lawful : LawfulJob j) where
   pub last-invariant : Invariant j (length (j .equations)) (families j)
   unfolding families
   last-invariant = invariant j lawful (length (j .equations)) (omega arith)
-
-  pub last-sized : Sized j (families j)
-  unfolding families
-  last-sized = reached j lawful (length (j .equations)) (omega arith) .sized
 
   -- it has the groups and the families of the definitions
   pub exact : (i : ℕ) → i < length (j .variables) → (groupAt (families j) i ≡ lowest j i) × (runAt (families j) i ≡ familyRun j i)

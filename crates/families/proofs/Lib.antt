@@ -1,6 +1,8 @@
 -- The theorems, in the order in which they rest on each other. What they say to a
 -- reader stands in Invariants, Exact, Wholes and Plans; the planner's proofs also go by the steps before them.
 
+-- lines that rise, fall or are level
+pub mod Lines
 -- part of a family: the members at some of its indices
 pub mod Parts
 -- an equation inside a group

@@ -2,15 +2,14 @@
 use mathlib.Core.Path.{_≡_, refl, sym, _∙_, ap, subst}
 use mathlib.Core.Logic.{_≢_, Iff·trans, Iff·symm}
 use mathlib.Core.Bool.{cond}
-use mathlib.Core.List.{List, [], _∷_}
+use mathlib.Core.List.{List}
 use Prim.Native.Nat.{ℕ, _<_}
 use native.Mathlib.Decide.{ℕ-discrete}
 use lib.Dec.{eqb}
 use lib.ListN.{length}
 use lib.Signed.{≤ℤ-refl}
 use borrow.Author.Tests.{eq-eqb, ne-eqb}
-use Rattle.ints.proofs.{ℤ, pos, _+ℤ_, _*ℤ_, _≤ℤ_, _<ℤ_, arith, lin, _&_, facts, prod}
-use Rattle.ints.proofs.Order.{le-antisym}
+use Rattle.ints.proofs.{ℤ, pos, _<ℤ_, arith}
 use Rattle.lists.specs.Members.{_∈_}
 use Rattle.lists.specs.Lexicographic.{Lower}
 use Rattle.lists.specs.Table.{table}
@@ -28,7 +27,8 @@ use Rattle.jobs.specs.Component.{lowestBy, lowest}
 use Rattle.jobs.specs.Family.{componentJob}
 use Rattle.jobs.proofs.Components.{lowest-le}
 use Rattle.jobs.proofs.Solutions.{in-solutions, rising-solutions}
-use Rattle.jobs.proofs.Assembly.{holds-iff, Between, between, component-length, variable-inside, variable-outside, in-equations}
+use Rattle.jobs.proofs.Assembly.{outside-zero, holds-iff, Between, between, component-length, variable-inside, variable-outside, in-equations}
+use Rattle.families.proofs.Lines.{line-up, pos-below}
 use Rattle.families.specs.Model.{State, runAt}
 use Rattle.families.specs.Invariant.{Keeps, OnFamily, Invariant}
 use Rattle.families.proofs.Parts.{at-rest}
@@ -55,11 +55,6 @@ module _ (j : Job) (l : ℕ) where
       where
         bounds : (i : ℕ) → i < length (j .variables) → lowest j i ≡ l → Between (variable j i) (number x i)
         bounds i h e = between (sym (variable-inside j l i h e)) refl (own-bounds i h s)
-
-    solution-rests : IsSolution (componentJob j l) x → (i : ℕ) → i < length (j .variables) → lowest j i ≢ l → number x i ≡ pos 0
-    solution-rests s i h n =
-        let (a, b) = between (sym (variable-outside j l i h n)) refl (own-bounds i h s) in
-        le-antisym (number x i) (pos 0) b a
 
     keeps-solution : length x ≡ length (j .variables) → ((i : ℕ) → i < length (j .variables) → lowest j i ≢ l → number x i ≡ pos 0) →
         Keeps j (length (j .equations)) l x → IsSolution (componentJob j l) x
@@ -128,7 +123,7 @@ module _ {j : Job} {s : State} (inv : Invariant j (length (j .equations)) s) {l 
 
       at : (i : ℕ) → i < length (j .variables) → Dec (lowest j i ≡ l) → number x i ≡ number (listed j l run (o .k)) i
       at i a (yes e) = o .is .at i a (sym (lowest-is j i) ∙ e) ∙ sym (listed-inside j l run (o .k) i a e)
-      at i a (no n) = solution-rests j l x h i a n ∙ sym (listed-outside j l run (o .k) i a n)
+      at i a (no n) = outside-zero j l x h i a n ∙ sym (listed-outside j l run (o .k) i a n)
 
   -- they rise: the first variable of the group is its lowest, and it rises
   listed-rises : (k k′ : ℕ) → k < k′ → k′ < run l .many → Lower (listed j l run k) (listed j l run k′)
@@ -142,14 +137,8 @@ module _ {j : Job} {s : State} (inv : Invariant j (length (j .equations)) s) {l 
           let n : lowest j i ≢ l = λ e. absurd (omega (arith, a, e, lowest-le j i)) in
           listed-outside j l run k i (omega arith) n ∙ sym (listed-outside j l run k′ i (omega arith) n)
 
-      up : (f s : ℤ) → pos 0 <ℤ s → (f +ℤ s *ℤ pos k) <ℤ (f +ℤ s *ℤ pos k′)
-      up f s p =
-          let one : pos 1 ≤ℤ s = lin (s ∷ []) p (search facts depth 20) (omega arith) in
-          let more : pos k ≤ℤ pos k′ = lin (pos k ∷ pos k′ ∷ []) h (search facts depth 20) (omega arith) in
-          lin (f ∷ s ∷ pos k ∷ pos k′ ∷ []) (prod one more & h) (search facts depth 20) (omega arith)
-
       here : number (listed j l run k) l <ℤ number (listed j l run k′) l
-      here = rw (listed-inside j l run k l b self, listed-inside j l run k′ l b self) (up (run l .first) (run l .step) (inv .rises l b self-by (omega arith)))
+      here = rw (listed-inside j l run k l b self, listed-inside j l run k′ l b self) (line-up (run l .first) (run l .step) (pos k) (pos k′) (inv .rises l b self-by (omega arith)) (pos-below h))
 
   pub solutions-listed : solutions (componentJob j l) ≡ table (listed j l (runAt s)) (runAt s l .many)
   solutions-listed =

@@ -5,7 +5,7 @@ use mathlib.Core.Bool.{Bool, true, false, cond}
 use mathlib.Core.List.{[], _∷_}
 use Prim.Native.Nat.{ℕ, _≤_, _<_}
 use lib.Dec.{eqb}
-use borrow.Author.Tests.{eqb-true, eqb-false}
+use borrow.Author.Tests.{eqb-true, eqb-false, eq-eqb, ne-eqb}
 use Rattle.ints.proofs.{ℤ, pos, natAbs, _+ℤ_, _*ℤ_, _≤ℤ_, _<ℤ_, arith, lin, _&_, facts}
 use Rattle.ints.proofs.Order.{abs-nonneg}
 use Rattle.ints.proofs.Products.{cancel}
@@ -15,7 +15,7 @@ use Rattle.runs.specs.Run.{nth, InRun, empty}
 use Rattle.runs.proofs.Turns.{Moves, FamilyRun, one-form-moves}
 use Rattle.runs.proofs.Members.{empty-form}
 use Rattle.runs.proofs.Indices.{index-one}
-use Rattle.families.specs.Model.{membersAt, through}
+use Rattle.families.specs.Model.{Indices, membersAt, through, runAfter}
 
 -- the equation holds at p and q
 abbrev pub Holds : Form → ℤ → ℤ → Type 0
@@ -120,3 +120,14 @@ module _ {r s : Run} (f : FamilyRun r) (p : Picks s (r .many)) where
       in-through x h =
           let l : h .place < s .many = subst (λ n. h .place < n) (through-many r s) (h .below) in
           record { place = pick s (h .place); below = pick-below p l; is = h .is ∙ through-at r p l }
+
+-- ---- the run of a variable in group g, of which l and r keep the members at their indices
+module _ (l r : ℕ) (i : Indices) (g : ℕ) (run : Run) where
+  pub after-left : g ≡ l → runAfter l r i g run ≡ through run (i .left)
+  after-left e = rw (eq-eqb g l e) refl
+
+  pub after-right : g ≢ l → g ≡ r → runAfter l r i g run ≡ through run (i .right)
+  after-right n e = rw (ne-eqb g l n, eq-eqb g r e) refl
+
+  pub after-other : g ≢ l → g ≢ r → runAfter l r i g run ≡ run
+  after-other n m = rw (ne-eqb g l n, ne-eqb g r m) refl

@@ -18,13 +18,13 @@ use Rattle.lists.proofs.Lexicographic.{lower-asym, lower-at, Compared, lower, e
 use Rattle.lists.proofs.Best.{at-most, among-equals}
 use Rattle.lists.proofs.Sums.{sum-ext, sum-sub, sum-nonpos, sum-nonpos-zero, pick-no, pick-yes, regroup}
 use Rattle.jobs.specs.declared.Equation.{Equation}
-use Rattle.jobs.specs.Job.{Job, variable, noVariable}
+use Rattle.jobs.specs.Job.{Job, variable}
 use Rattle.jobs.specs.Solution.{number, IsSolution, objective, Earlier, Better, Optimal, best}
 use Rattle.jobs.specs.Component.{lowest, leads}
 use Rattle.jobs.specs.Family.{componentJob, fits, slope}
 use Rattle.jobs.proofs.Solutions.{best-is, best-only}
 use Rattle.jobs.proofs.Components.{lowest-le, lowest-self, in-leads}
-use Rattle.jobs.proofs.Assembly.{component-length, variable-inside, variable-outside, partOf, assembled, part-inside, part-outside, assembled-at, part-solution, assembled-solution, some-iff, fits-iff, fits-some}
+use Rattle.jobs.proofs.Assembly.{outside-zero, component-length, variable-inside, variable-outside, partOf, assembled, part-inside, part-outside, assembled-at, part-solution, assembled-solution, some-iff, fits-iff, fits-some}
 use Rattle.families.specs.Family.{member, IsFamily, choice}
 use Rattle.families.proofs.Choices.{choice-optimal}
 
@@ -57,15 +57,6 @@ module _ (j : Job) where
       each i h = let b : i < n = omega (arith, part-length l x) in same-at l x y i b (f i b)
 
   -- a solution of a group is 0 outside it, so it is its own part
-  outside-zero : (l : ℕ) (z : List ℤ) → IsSolution (componentJob j l) z → (i : ℕ) → i < n → lowest j i ≢ l → number z i ≡ pos 0
-  outside-zero l z s i h d = le-antisym (number z i) (pos 0) (rw e at (s .high i b)) (rw e at (s .low i b))
-    where
-      e : variable (componentJob j l) i ≡ noVariable
-      e = variable-outside j l i h d
-
-      b : i < length (componentJob j l .variables)
-      b = omega (arith, component-length j l)
-
   part-self : (l : ℕ) (z : List ℤ) → IsSolution (componentJob j l) z → partOf j l z ≡ z
   part-self l z s = same-places (pos 0) (partOf j l z) z (part-length l z ∙ sym (s .long ∙ component-length j l)) each
     where
@@ -77,7 +68,7 @@ module _ (j : Job) where
 
           go : Dec (lowest j i ≡ l) → number (partOf j l z) i ≡ number z i
           go (yes q) = part-inside j l z i b q
-          go (no d) = part-outside j l z i b d ∙ sym (outside-zero l z s i b d)
+          go (no d) = part-outside j l z i b d ∙ sym (outside-zero j l z s i b d)
 
   -- the parts of a list put together from solutions of the groups are these
   pub part-assembled : (f : ℕ → List ℤ) (l : ℕ) → IsSolution (componentJob j l) (f l) → partOf j l (assembled j f) ≡ f l

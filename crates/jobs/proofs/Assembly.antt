@@ -13,6 +13,7 @@ use lib.ListN.{length, getD}
 use lib.Signed.{≤ℤ-refl}
 use borrow.Author.Tests.{eqb-true, eq-eqb, ne-eqb}
 use Rattle.ints.proofs.{ℤ, pos, _≤ℤ_, _+ℤ_, _*ℤ_}
+use Rattle.ints.proofs.Order.{le-antisym}
 use Rattle.lists.specs.Members.{_∈_}
 use Rattle.lists.specs.Table.{table}
 use Rattle.lists.proofs.Members.{member-at, each-iff}
@@ -61,6 +62,13 @@ module _ (j : Job) where
 
     pub variable-outside : (i : ℕ) → i < length (j .variables) → lowest j i ≢ l → variable (componentJob j l) i ≡ noVariable
     variable-outside i h n = component-variable i h ∙ ap (λ t. cond t (variable j i) noVariable) (ne-eqb (lowest j i) l n)
+
+    -- so a solution of it is 0 there
+    pub outside-zero : (x : List ℤ) → IsSolution (componentJob j l) x → (i : ℕ) → i < length (j .variables) → lowest j i ≢ l → number x i ≡ pos 0
+    outside-zero x s i h n =
+        let b : i < length (componentJob j l .variables) = omega (arith, component-length) in
+        let (low, high) = between (sym (variable-outside i h n)) refl (s .low i b, s .high i b) in
+        le-antisym (number x i) (pos 0) high low
 
     pub in-equations : (e : Equation) → (e ∈ componentJob j l .equations) ↔ ((e ∈ j .equations) × (lowest j (e .left) ≡ l))
     unfolding componentJob

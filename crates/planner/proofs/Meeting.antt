@@ -12,6 +12,7 @@ use Rattle.runs.specs.declared.Run.{Run}
 use Rattle.runs.specs.declared.Equation.{Equation}
 use Rattle.runs.specs.Search.{meet, carry}
 use Rattle.runs.specs.Workings.{InLimits}
+use Rattle.runs.proofs.Clips.{one-less}
 use Rattle.runs.proofs.Turns.{FamilyRun, one-form-moves, one-form-family, upward}
 use Rattle.runs.proofs.Indices.{ratio, Indexed, across, across-in, across-moves}
 use Rattle.runs.proofs.Joins.{join-form, in-join, join-partners, left, right}
@@ -45,10 +46,7 @@ module _ {r R : Run} (f : FamilyRun r) (w : Crossable R) (some : 1 ≤ R .many) 
       last zero e h = absurd (omega (arith, h))
       last (suc n) e h =
           lin (indicesIn r R .first ∷ indicesIn r R .step ∷ pos (R .many) ∷ pos n ∷ pos (r .many) ∷ [])
-          (i .inside n (omega (arith, e)) & many-within f & ap (λ t. indicesIn r R .step *ℤ t) (less n e)) (search facts depth 20) (omega arith)
-        where
-          less : (n : ℕ) → R .many ≡ suc n → pos (R .many) -ℤ pos 1 ≡ pos n
-          less n e = lin (pos (R .many) ∷ pos n ∷ []) e (search facts depth 20) (omega arith)
+          (i .inside n (omega (arith, e)) & many-within f & ap (λ t. indicesIn r R .step *ℤ t) (one-less (R .many) n e)) (search facts depth 20) (omega arith)
 
 -- the numbers of the left variable that are joined, and their partners
 module _ {e : Equation} (lim : InLimits e) {P Q : Run} (f : FamilyRun P) (g : FamilyRun Q) where

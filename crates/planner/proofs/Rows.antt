@@ -5,7 +5,7 @@ use Prim.Native.Nat.{ℕ, _+_, _≤_, _<_}
 use native.Mathlib.Omega.{arith}
 use lib.ListN.{length}
 use Rattle.jobs.specs.declared.Equation.{Equation}
-use Rattle.jobs.specs.Job.{jobOf, variableCount, equationCount, variableRow, equationRow, equationFrom, equationAt, equation}
+use Rattle.jobs.specs.Job.{jobOf, variableCount, equationCount, equationRow, equationFrom, equationAt, equation}
 use Rattle.jobs.proofs.Lawful.{Lawful, LawfulEquation, equation-of}
 
 -- what a loop knows: the job is lawful, and n and m are its numbers of variables and equations
@@ -16,7 +16,7 @@ module _ {s : List ℕ} {n m : ℕ} (z : Sizes s n m) where
   pub n-most : n ≤ 256
   n-most = omega (arith, z .1 .0, z .0 .header .variables)
 
-  pub m-most : m ≤ 1024
+  m-most : m ≤ 1024
   m-most = omega (arith, z .1 .1, z .0 .header .equations)
 
   whole : length s ≡ equationRow n m
@@ -24,9 +24,6 @@ module _ {s : List ℕ} {n m : ℕ} (z : Sizes s n m) where
 
   pub row-asked : (k : ℕ) → k < m → (n < 65536) × ((k < 65536) × (equationRow n (k + 1) ≤ length s))
   row-asked k h = (omega (arith, n-most), (omega (arith, m-most), omega (arith, whole)))
-
-  pub variables-asked : variableRow n ≤ length s
-  variables-asked = omega (arith, whole)
 
   -- row k
   module _ (k : ℕ) (h : k < m) (e : Equation) (r : e ≡ equationFrom s (equationRow n k)) where

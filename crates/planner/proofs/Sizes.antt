@@ -1,5 +1,5 @@
 -- How large the numbers of a family are: each lies within its variable's range, so that 64 bits hold all that is made of them.
-use mathlib.Core.Path.{_≡_, refl}
+use mathlib.Core.Path.{_≡_, refl, sym, ap}
 use mathlib.Core.Logic.{_⊎_, inl, inr}
 use Prim.Native.Nat.{ℕ, zero, suc, _≤_, _<_}
 use mir.Syntax.{w64}
@@ -11,6 +11,7 @@ use Rattle.ints.proofs.Order.{below-or-above}
 use Rattle.ints.proofs.Signed.{held}
 use Rattle.runs.specs.declared.Run.{Run}
 use Rattle.runs.specs.Run.{bound, nth}
+use Rattle.runs.proofs.Clips.{one-less}
 use Rattle.runs.proofs.Turns.{FamilyRun}
 use Rattle.planner.specs.Widths.{Turnable, Crossable}
 
@@ -70,11 +71,8 @@ module _ {r : Run} (f : FamilyRun r) where
   last-of : (n : ℕ) → r .many ≡ suc n → Within bound (r .first +ℤ r .step *ℤ (pos (r .many) -ℤ pos 1))
   last-of n e = lin (r .first ∷ r .step ∷ pos (r .many) ∷ pos n ∷ []) (at n (omega arith) & ap-step) (search facts depth 20) (omega arith)
     where
-      less : pos n ≡ pos (r .many) -ℤ pos 1
-      less = lin (pos n ∷ pos (r .many) ∷ []) e (search facts depth 20) (omega arith)
-
       ap-step : r .step *ℤ pos n ≡ r .step *ℤ (pos (r .many) -ℤ pos 1)
-      ap-step = rw less refl
+      ap-step = ap (λ t. r .step *ℤ t) (sym (one-less (r .many) n e))
 
   pub last-within : Within bound (r .first +ℤ r .step *ℤ (pos (r .many) -ℤ pos 1))
   last-within = go (r .many) refl

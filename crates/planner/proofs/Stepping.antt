@@ -5,7 +5,6 @@ use mathlib.Core.List.{List}
 use Prim.Native.Nat.{ℕ, suc, _≤_, _<_}
 use native.Mathlib.Omega.{arith}
 use lib.ListN.{length, getD}
-use Rattle.lists.proofs.Table.{table-at}
 use Rattle.runs.specs.declared.Run.{Run}
 use Rattle.runs.specs.Run.{empty, full}
 use Rattle.runs.specs.Search.{meet}
@@ -18,7 +17,7 @@ use Rattle.jobs.proofs.Lawful.{LawfulJob, LawfulEquation}
 use Rattle.jobs.proofs.Components.{lowestBy-le}
 use Rattle.families.specs.Model.{State, groupAt, runAt, Indices as Pair, interval, start, runAfter, kept, change, next, familiesBy, families}
 use Rattle.families.specs.Family.{familyRun}
-use Rattle.families.proofs.Begins.{began-is}
+use Rattle.families.proofs.Begins.{began-is, group-at, run-at}
 use Rattle.families.proofs.Invariants.{Reached, reached, invariant, change-none, group-after, run-after}
 use Rattle.families.proofs.Labels.{next-label}
 use Rattle.families.proofs.Exact.{exact}
@@ -34,15 +33,17 @@ pub record Follows (j : Job) (k : ℕ) (groups : List ℕ) (runs : List Run) : T
 
 -- ---- before any equation
 module _ (j : Job) (f : LawfulJob j) where
+  begins-start : familiesBy j 0 ≡ start j
+  unfolding familiesBy
+  begins-start = refl
+
   start-group : (i : ℕ) → i < length (j .variables) → groupAt (familiesBy j 0) i ≡ i
-  unfolding familiesBy start
-  start-group i h = table-at (λ i. i) (length (j .variables)) i 0 h
+  start-group i h = ap (λ s. groupAt s i) begins-start ∙ group-at j i h
 
   start-run : (i : ℕ) → i < length (j .variables) → runAt (familiesBy j 0) i ≡ meet full (interval (variable j i .low) (variable j i .high))
-  unfolding familiesBy start
   start-run i h =
       let v = f .each-variable i h in
-      table-at _ (length (j .variables)) i empty h ∙ began-is (variable j i .low) (variable j i .high) (v .low) (v .high)
+      ap (λ s. runAt s i) begins-start ∙ run-at j i h ∙ began-is (variable j i .low) (variable j i .high) (v .low) (v .high)
 
   pub follows-start : (groups : List ℕ) (runs : List Run) → ((i : ℕ) → i < length (j .variables) → getD groups i 0 ≡ i) →
       ((i : ℕ) → i < length (j .variables) → getD runs i empty ≡ meet full (interval (variable j i .low) (variable j i .high))) → Follows j 0 groups runs

@@ -17,7 +17,7 @@ use Rattle.runs.proofs.Members.{not-in-empty, empty-form}
 use Rattle.runs.proofs.Progressions.{Along, along-iff, alone, in-along}
 
 -- a progression in its one form
-one-less : (m n : ℕ) → m ≡ suc n → pos m -ℤ pos 1 ≡ pos n
+pub one-less : (m n : ℕ) → m ≡ suc n → pos m -ℤ pos 1 ≡ pos n
 one-less m n e = lin (pos m ∷ pos n ∷ []) e (search facts depth 20) (omega arith)
 
 pub in-progression : (f s x : ℤ) (n : ℕ) → InRun (progression f s n) x ↔ Along f s (pos n) x
