@@ -74,8 +74,8 @@ fn leaves(e: runs::Equation, l: u16, r: u16, p: Run, q: Run) -> Kept
     if groups::joins(l, r) {
         return Kept::At(join::between(e, p, q, l < r));
     }
-    let left = cycle::inside(e, p, q);
-    match left {
+    let remains = cycle::inside(e, p, q);
+    match remains {
         Remains::All => Kept::All,
         Remains::At(i) => Kept::At(Indices { left: i, right: i }),
     }

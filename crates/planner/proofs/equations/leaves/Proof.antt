@@ -49,8 +49,8 @@ inside-requires c κs = search needs
 enum-told : tie.Need-enum-told
 enum-told c = search needs
 
-enum-known-left : tie.Need-enum-known-left
-enum-known-left c = search needs
+enum-known-remains : tie.Need-enum-known-remains
+enum-known-remains c = search needs
 
 -- after the call, which gives x
 module _ (c : tie.After-inside) where
@@ -66,7 +66,7 @@ returns-2 : tie.Need-returns-2
 returns-2 c = inside-is (c .before .before) All (c .enum-told .given .1)
 
 returns-3 : tie.Need-returns-3
-returns-3 c = inside-is (c .before .before .before) (At (c .before .left .given .0 .0)) (c .before .left .given .1)
+returns-3 c = inside-is (c .before .before .before) (At (c .before .remains .given .0 .0)) (c .before .remains .given .1)
 
 pub leaves-spec : {M : Type 1} → statement M
 leaves-spec =
@@ -77,6 +77,6 @@ leaves-spec =
     returns
     inside-requires
     enum-told
-    enum-known-left
+    enum-known-remains
     returns-2
     returns-3)
