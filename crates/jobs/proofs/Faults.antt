@@ -22,7 +22,7 @@ use Rattle.lists.proofs.Rising.{rising-one, rising-append, rising-flatMap}
 use Rattle.lists.proofs.Table.{in-table, rising-table, in-upTo, rising-upTo}
 use Rattle.lists.proofs.Lexicographic.{lower-asym}
 use Rattle.jobs.specs.Job.{variableCount, equationCount}
-use Rattle.jobs.specs.Table.{Broken, placeOf, Before, IsFirst}
+use Rattle.jobs.specs.Table.{Broken, NoArea, placeOf, Before, IsFirst}
 use Rattle.jobs.specs.Decide.{firstOf}
 use Rattle.jobs.specs.Faults.{broken?, headerChecks, equationChecks, rowChecks, checks, firstBroken, noArea?, Answer, accepted, refused, answered, checked, ChecksExactly}
 use Rattle.jobs.proofs.Firsts.{First, first-iff, none-holds, holds-none}
@@ -152,6 +152,52 @@ module _ (s : List ℕ) where
     unfolding firstBroken
     sound-iff = (λ e r b. none-holds (broken? d s) (checks s) e r (among short r b) b, λ f. holds-none (broken? d s) (checks s) (λ r m. f r))
 
+  -- ---- from the job check to the planner, which may also find the area too short: that is the last check, and the only one in
+  -- which they differ
+  carried : {p q : Type 0} (r : Reason) → (r ≡ ShortArea → p → q) → Broken p s r → Broken q s r
+  carried ShortJob f b = b
+  carried WrongMark f b = b
+  carried TooMany f b = b
+  carried WrongHeader f b = b
+  carried (VariableRange i) f b = b
+  carried (EquationVariables k) f b = b
+  carried (EquationRange k) f b = b
+  carried ShortArea f b = f refl b
+  carried WrongArgument f b = b
+
+  before-area : (r : Reason) → Broken NoArea s r → placeOf r < placeOf ShortArea
+  before-area ShortJob b = omega arith
+  before-area WrongMark b = omega arith
+  before-area TooMany b = omega arith
+  before-area WrongHeader b = omega arith
+  before-area (VariableRange i) b = omega arith
+  before-area (EquationVariables k) b = omega arith
+  before-area (EquationRange k) b = omega arith
+  before-area ShortArea b = absurd b
+  before-area WrongArgument b = absurd b
+
+  module _ {short : Type 0} (d : Dec short) where
+    -- what is broken before a reason that does not come after the area's is so without an area too
+    without-area : (r t : Reason) → ¬ Before ShortArea r → Before t r → Broken short s t → Broken NoArea s t
+    without-area r t n h = carried t (λ e x. n (subst (λ t. Before t r) e h))
+
+    -- what the job check reports the planner reports
+    pub fault-checked : (r : Reason) → firstBroken noArea? s ≡ some r → firstBroken d s ≡ some r
+    fault-checked r e = let f = reported-iff noArea? r .0 e in reported-iff d r .1 record {
+      broken = carried r (λ q x. absurd x) (f .broken);
+      none-before = λ t h b. f .none-before t h (without-area r t (before-asym r ShortArea (by-place r ShortArea (before-area r (f .broken)))) h b);
+    }
+
+    -- where it accepts, only the area counts
+    pub fault-short : firstBroken noArea? s ≡ none → short → firstBroken d s ≡ some ShortArea
+    fault-short e h = reported-iff d ShortArea .1 record {
+      broken = h;
+      none-before = λ t k b. sound-iff noArea? .0 e t (without-area ShortArea t (λ l. before-asym ShortArea ShortArea l l) k b);
+    }
+
+    pub fault-none : firstBroken noArea? s ≡ none → ¬ short → firstBroken d s ≡ none
+    fault-none e n = sound-iff d .1 (λ r b. sound-iff noArea? .0 e r (carried r (λ q x. n x) b))
+
 -- ---- so what the job check answers is what demand 1 asks of it
 -- a case of an answer is no other case, and says what it says
 abbrev IsRefused : Answer → ℕ → ℕ → Type 0
@@ -170,15 +216,22 @@ was-accepted : (o : Option Reason) → IsAccepted (answered o) → o ≡ none
 was-accepted none e = refl
 was-accepted (some r) e = absurd e
 
-pub checks-exactly : (s : List ℕ) → ChecksExactly s (checked s)
-unfolding checked
-checks-exactly s = record {
-  refusal = λ p q. (
-    λ e. let (r, h) = was-refused (firstBroken noArea? s) p q (subst (λ x. IsRefused x p q) (sym e) (refl, refl)) in (r, (h .1 .0, (h .1 .1, reported-iff s noArea? r .0 (h .0)))),
-    λ (r, h). ap answered (reported-iff s noArea? r .1 (h .1 .1)) ∙ ap₂ refused (h .0) (h .1 .0),
-  );
-  acceptance = (
-    λ e. sound-iff s noArea? .0 (was-accepted (firstBroken noArea? s) (subst IsAccepted (sym e) tt)),
-    λ f. ap answered (sound-iff s noArea? .1 f),
-  );
-}
+-- the first fault behind an answer
+module _ (s : List ℕ) where
+  pub accepted-none : checked s ≡ accepted → firstBroken noArea? s ≡ none
+  unfolding checked
+  accepted-none e = was-accepted (firstBroken noArea? s) (subst IsAccepted (sym e) tt)
+
+  pub refused-some : (p q : ℕ) → checked s ≡ refused p q → (r : Reason) × ((firstBroken noArea? s ≡ some r) × ((numberOf r ≡ p) × (rowOf r ≡ q)))
+  unfolding checked
+  refused-some p q e = was-refused (firstBroken noArea? s) p q (subst (λ x. IsRefused x p q) (sym e) (refl, refl))
+
+  pub checks-exactly : ChecksExactly s (checked s)
+  unfolding checked
+  checks-exactly = record {
+    refusal = λ p q. (
+      λ e. let (r, h) = refused-some p q e in (r, (h .1 .0, (h .1 .1, reported-iff s noArea? r .0 (h .0)))),
+      λ (r, h). ap answered (reported-iff s noArea? r .1 (h .1 .1)) ∙ ap₂ refused (h .0) (h .1 .0),
+    );
+    acceptance = (λ e. sound-iff s noArea? .0 (accepted-none e), λ f. ap answered (sound-iff s noArea? .1 f));
+  }
