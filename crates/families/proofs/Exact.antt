@@ -14,6 +14,7 @@ use Rattle.runs.specs.declared.Run.{Run}
 use Rattle.runs.specs.Run.{nth, empty}
 use Rattle.runs.proofs.Members.{same-run}
 use Rattle.runs.proofs.Indices.{few-or-more}
+use Rattle.runs.proofs.Turns.{FamilyRun}
 use Rattle.jobs.specs.Job.{Job}
 use Rattle.jobs.specs.Solution.{number, IsSolution, solutions}
 use Rattle.jobs.specs.Component.{lowest, leads}
@@ -47,7 +48,7 @@ same-table d f g {m} {n} e same = same-places d (table f m) (table g n) (length-
     at i h = table-at f m i d h ∙ same i h ∙ sym (table-at g n i d (omega (arith, e, h)))
 
 -- base, step and fits of a group's own job c, at variable i
-abbrev readOff : Job → ℕ → Run
+abbrev pub readOff : Job → ℕ → Run
 readOff c i = record { first = number (base c) i; step = number (step c) i; many = fits c }
 
 -- ---- the group of l, after all equations
@@ -164,7 +165,7 @@ module _ {j : Job} {s : State} (inv : Invariant j (length (j .equations)) s) {l 
       same-run (ap (λ r. r .first) (sym q) ∙ sym (base-at i h)) (ap (λ r. r .step) (sym q) ∙ sym (step-at i h)) (own-many i h e ∙ sym fits-is)
 
 -- ---- of the model's last state
-family-run-is : (j : Job) (i : ℕ) → familyRun j i ≡ readOff (componentJob j (lowest j i)) i
+pub family-run-is : (j : Job) (i : ℕ) → familyRun j i ≡ readOff (componentJob j (lowest j i)) i
 unfolding familyRun
 family-run-is j i = refl
 
@@ -179,6 +180,9 @@ module _ (j : Job) (lawful : LawfulJob j) where
     last-invariant .groups i h ∙ sym (lowest-is j i),
     run-is last-invariant (omega (arith, h, lowest-le j i)) (lowest-self j i) i h refl ∙ sym (family-run-is j i),
   )
+
+  pub family-form : (i : ℕ) → i < length (j .variables) → FamilyRun (familyRun j i)
+  family-form i h = subst FamilyRun (exact i h .1) (last-invariant .form i h)
 
   module _ (l : ℕ) (lead : l ∈ leads j) where
     -- every group's solutions are base + step·k, in order

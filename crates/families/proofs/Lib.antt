@@ -23,6 +23,8 @@ pub mod Begins
 pub mod Invariants
 -- the solutions of a group, in order, are the members of its family
 pub mod Listings
+-- how large the numbers of a family are
+pub mod Sizes
 -- the model ends in the definitions
 pub mod Exact
 -- the best of one group: the last of its family where the gain is above 0, and the first elsewhere
@@ -31,3 +33,5 @@ pub mod Choices
 pub mod Wholes
 -- the best of a lawful job, by what the model ends in
 pub mod Plans
+-- the choice and the sheet of the model are those of the definitions
+pub mod Planned

@@ -6,7 +6,7 @@ use Prim.Native.Nat.{ℕ, _<_}
 use native.Mathlib.Decide.{ℕ-discrete}
 use lib.Dec.{eqb}
 use lib.ListN.{length}
-use Rattle.ints.proofs.{ℤ, pos, _-ℤ_, _*ℤ_, _≤ℤ_, _<ℤ_, List, [], _∷_, arith, lin, _&_, facts, le-or-lt}
+use Rattle.ints.proofs.{ℤ, pos, _-ℤ_, _*ℤ_, _≤ℤ_, _<ℤ_, List, [], _∷_, arith, lin, lin₀, _&_, facts, le-or-lt}
 use Rattle.ints.proofs.Order.{le-antisym}
 use Rattle.lists.specs.Members.{_∈_}
 use Rattle.lists.specs.Lexicographic.{Lower}
@@ -79,32 +79,37 @@ module _ (j : Job) where
   part-nothing l x y d = same-part l x y (λ i h e. absurd (d (sym (ap (lowest j) e) ∙ lowest-self j i ∙ e)))
 
   -- ---- the objective, group by group
-  abbrev weigh : List ℤ → ℕ → ℤ
-  weigh x i = variable j i .weight *ℤ number x i
+  abbrev weigh : (ℕ → ℤ) → ℕ → ℤ
+  weigh f i = variable j i .weight *ℤ f i
 
-  objective-part : (l : ℕ) (x : List ℤ) → objective (componentJob j l) (partOf j l x) ≡ sumOf (lowest j) l n (weigh x)
+  -- that of a group's own job counts only what a list has inside the group
+  pub objective-own : (l : ℕ) (x : List ℤ) (f : ℕ → ℤ) → ((i : ℕ) → i < length (j .variables) → lowest j i ≡ l → number x i ≡ f i) →
+      objective (componentJob j l) x ≡ sumOf (lowest j) l (length (j .variables)) (λ i. variable j i .weight *ℤ f i)
   unfolding objective
-  objective-part l x = ap (λ m. sum m own) (component-length j l) ∙ sum-ext n own (λ i. pick (eqb (lowest j i) l) (weigh x i)) each
+  objective-own l x f inside = ap (λ m. sum m own) (component-length j l) ∙ sum-ext n own (λ i. pick (eqb (lowest j i) l) (weigh f i)) each
     where
       own : ℕ → ℤ
-      own i = variable (componentJob j l) i .weight *ℤ number (partOf j l x) i
+      own i = variable (componentJob j l) i .weight *ℤ number x i
 
-      each : (i : ℕ) → i < n → own i ≡ pick (eqb (lowest j i) l) (weigh x i)
+      nothing : (t : ℤ) → pos 0 *ℤ t ≡ pos 0
+      nothing t = lin₀ (t ∷ []) (search facts depth 20) (omega arith)
+
+      each : (i : ℕ) → i < n → own i ≡ pick (eqb (lowest j i) l) (weigh f i)
       each i h = go (ℕ-discrete (lowest j i) l)
         where
-          go : Dec (lowest j i ≡ l) → own i ≡ pick (eqb (lowest j i) l) (weigh x i)
+          go : Dec (lowest j i ≡ l) → own i ≡ pick (eqb (lowest j i) l) (weigh f i)
           go (yes q) =
-              ap₂ (λ v t. v .weight *ℤ t) (variable-inside j l i h q) (part-inside j l x i h q)
-              ∙ sym (ap (λ m. pick (eqb m l) (weigh x i)) q ∙ pick-yes l (weigh x i))
-          go (no d) = ap₂ (λ v t. v .weight *ℤ t) (variable-outside j l i h d) (part-outside j l x i h d) ∙ sym (pick-no (lowest j i) l (weigh x i) d)
+              ap₂ (λ v t. v .weight *ℤ t) (variable-inside j l i h q) (inside i h q)
+              ∙ sym (ap (λ m. pick (eqb m l) (weigh f i)) q ∙ pick-yes l (weigh f i))
+          go (no d) = ap (λ v. v .weight *ℤ number x i) (variable-outside j l i h d) ∙ nothing (number x i) ∙ sym (pick-no (lowest j i) l (weigh f i) d)
 
-  by-labels : (x : List ℤ) → objective j x ≡ sum n (λ l. sumOf (lowest j) l n (weigh x))
+  by-labels : (x : List ℤ) → objective j x ≡ sum n (λ l. sumOf (lowest j) l n (weigh (number x)))
   unfolding objective
-  by-labels x = regroup (lowest j) n n (weigh x) (λ i h. omega (arith, lowest-le j i))
+  by-labels x = regroup (lowest j) n n (weigh (number x)) (λ i h. omega (arith, lowest-le j i))
 
   -- it is the sum of the parts' objectives; where l is no group's lowest variable, that of the part is 0
   pub objective-parts : (x : List ℤ) → objective j x ≡ sum (length (j .variables)) (λ l. objective (componentJob j l) (partOf j l x))
-  objective-parts x = by-labels x ∙ sum-ext n _ _ (λ l h. sym (objective-part l x))
+  objective-parts x = by-labels x ∙ sum-ext n _ _ (λ l h. sym (objective-own l (partOf j l x) (number x) (part-inside j l x)))
 
   -- what the group of l adds to it
   abbrev worth : List ℤ → ℕ → ℤ

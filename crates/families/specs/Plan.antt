@@ -84,7 +84,7 @@ module _ (j : Job) (g : ℕ → ℕ) (r : ℕ → Run) where
   laidOutBy = let n = length (j .variables) in headerRow n (length (leadsBy g n)) worthBy ++ variableRows ++ groupRows
 
 -- ---- of the bytes of a job and the area as lent
-abbrev outcomeBy : Option Reason → Option ℕ → ℤ → Verdict
+abbrev pub outcomeBy : Option Reason → Option ℕ → ℤ → Verdict
 outcomeBy (some r) l worth = refused (numberOf r) (rowOf r)
 outcomeBy none (some l) worth = noFit l
 outcomeBy none none worth = planned worth
@@ -96,7 +96,7 @@ verdictBy s area =
     let t = families j in
     outcomeBy (firstBroken (shortFor? j area) s) (emptyBy j (groupAt t) (runAt t)) (worthBy j (groupAt t) (runAt t))
 
-abbrev written : Verdict → List ℕ → List ℕ → List ℕ
+abbrev pub written : Verdict → List ℕ → List ℕ → List ℕ
 written (planned worth) sheet area = sheet ++ drop (length sheet) area
 written (noFit l) sheet area = area
 written (refused reason row) sheet area = area

@@ -164,9 +164,12 @@ pub fits-some : (c : Job) → fits c ≢ 0 → (x : List ℤ) × IsSolution c x
 unfolding fits
 fits-some c h = (getD (solutions c) 0 [], in-solutions c (getD (solutions c) 0 []) .0 (member-at (solutions c) 0 [] (omega (arith, h))))
 
-pub all-fit : (j : Job) → firstWithout j ≡ none → (l : ℕ) → l ∈ leads j → (x : List ℤ) × IsSolution (componentJob j l) x
+pub none-without : (j : Job) → firstWithout j ≡ none → (l : ℕ) → l ∈ leads j → fits (componentJob j l) ≢ 0
 unfolding firstWithout
-all-fit j e l m = fits-some (componentJob j l) (none-holds (λ l. equal? (fits (componentJob j l)) 0) (leads j) e l m)
+none-without j e = none-holds (λ l. equal? (fits (componentJob j l)) 0) (leads j) e
+
+pub all-fit : (j : Job) → firstWithout j ≡ none → (l : ℕ) → l ∈ leads j → (x : List ℤ) × IsSolution (componentJob j l) x
+all-fit j e l m = fits-some (componentJob j l) (none-without j e l m)
 
 pub without-iff : (j : Job) (l : ℕ) → (firstWithout j ≡ some l) ↔
     ((l ∈ leads j) × ((fits (componentJob j l) ≡ 0) × ((i : ℕ) → i ∈ leads j → i < l → fits (componentJob j i) ≢ 0)))

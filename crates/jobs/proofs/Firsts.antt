@@ -87,3 +87,12 @@ module _ {A : Type 0} {P : A → Type 0} (d : (x : A) → Dec (P x)) where
 
     pub first-iff : {xs : List A} → Rising R xs → (x : A) → (firstOf d xs ≡ some x) ↔ First xs x
     first-iff r x = (first-out r, λ f. first-into r (f .0) (f .1 .0) (f .1 .1))
+
+-- statements that agree on the members have the same first
+pub first-same : {A : Type 0} {P Q : A → Type 0} (d : (x : A) → Dec (P x)) (e : (x : A) → Dec (Q x)) (xs : List A) → ((x : A) → x ∈ xs → P x ↔ Q x) → firstOf d xs ≡ firstOf e xs
+first-same d e [] f = first-none d ∙ sym (first-none e)
+first-same {P} d e (x ∷ xs) f = go (d x) (first-same d e xs (λ y m. f y (there m)))
+  where
+    go : Dec (P x) → firstOf d xs ≡ firstOf e xs → firstOf d (x ∷ xs) ≡ firstOf e (x ∷ xs)
+    go (yes h) q = first-here d x xs h ∙ sym (first-here e x xs (f x (here refl) .0 h))
+    go (no h) q = first-later d x xs h ∙ q ∙ sym (first-later e x xs (λ k. h (f x (here refl) .1 k)))

@@ -84,6 +84,10 @@ pub record LawfulJob (j : Job) : Type 0 where
 pub lawful-member : {j : Job} → LawfulJob j → (e : Equation) → e ∈ j .equations → LawfulEquation (length (j .variables)) e
 lawful-member {j} f = each-iff (LawfulEquation (length (j .variables))) (j .equations) noEquation .0 (f .each-equation)
 
+-- every equation names variables of the job
+pub lawful-named : {j : Job} → LawfulJob j → (e : Equation) → e ∈ j .equations → (e .left < length (j .variables)) × (e .right < length (j .variables))
+lawful-named f e m = let h = lawful-member f e m in (h .left, h .right)
+
 module _ (s : List ℕ) where
   pub variables-of : length (jobOf s .variables) ≡ variableCount s
   unfolding jobOf

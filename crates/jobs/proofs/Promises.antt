@@ -26,7 +26,7 @@ use Rattle.jobs.specs.Verdict.{Verdict, planned, noFit, refused, firstWi
 use Rattle.jobs.specs.Sheet.{laidOut, sheet}
 use Rattle.jobs.specs.Demands.{worthOn, numberOn, numbersOn, TurnsAway, LaidOut, NoneFits, CannotBeBettered, FamiliesOn, GivesFits}
 use Rattle.jobs.proofs.Faults.{reported-iff, sound-iff}
-use Rattle.jobs.proofs.Lawful.{LawfulJob, lawful-member, lawful, lawful-job}
+use Rattle.jobs.proofs.Lawful.{LawfulJob, lawful-named, lawful, lawful-job}
 use Rattle.jobs.proofs.Writing.{within-holds}
 use Rattle.jobs.proofs.Fields.{number-back, worth-back, laidOut-back, if-planned, if-noFit, if-refused, length-sheet, drop-sheet}
 use Rattle.jobs.proofs.Solutions.{best-is}
@@ -69,10 +69,10 @@ module _ (j : Job) where
 module _ (j : Job) (f : LawfulJob j) where
   -- it has a solution exactly when each group has one
   groups-iff : ((x : List ℤ) × IsSolution j x) ↔ ((l : ℕ) → l ∈ leads j → (x : List ℤ) × IsSolution (componentJob j l) x)
-  groups-iff = some-iff j (λ e m. let h = lawful-member f e m in (h .left, h .right))
+  groups-iff = some-iff j (lawful-named f)
 
   -- so where no group is without one, the best is one
-  optimal-best : firstWithout j ≡ none → Optimal j (best j)
+  pub optimal-best : firstWithout j ≡ none → Optimal j (best j)
   optimal-best e = let (x, s) = groups-iff .1 (all-fit j e) in best-is j x s
 
   none-fits : (l : ℕ) → firstWithout j ≡ some l → NoneFits j l
@@ -85,12 +85,12 @@ module _ (j : Job) (f : LawfulJob j) where
 
   -- the numbers and the worth of a solution fit their fields
   module _ (x : List ℤ) (s : IsSolution j x) where
-    number-within : (i : ℕ) → i < length (j .variables) → Within bound (number x i)
+    pub number-within : (i : ℕ) → i < length (j .variables) → Within bound (number x i)
     number-within i h =
         let v = f .each-variable i h in
         lin (variable j i .low ∷ variable j i .high ∷ number x i ∷ []) (v .low & v .high & s .low i h & s .high i h) (search facts depth 20) (omega arith)
 
-    objective-within : Within (length (j .variables) * (1000000 * bound)) (objective j x)
+    pub objective-within : Within (length (j .variables) * (1000000 * bound)) (objective j x)
     unfolding objective
     objective-within =
         sum-within (length (j .variables)) (1000000 * bound) (λ i. variable j i .weight *ℤ number x i)
@@ -110,14 +110,14 @@ module _ (j : Job) (f : LawfulJob j) where
     objective-back rest = worth-back j x (objective j x) rest (within-holds 8 (length (j .variables) * (1000000 * bound)) (objective j x) (omega (arith, f .variables)) objective-within)
 
 module _ (s area : List ℕ) where
-  abbrev fault : Option Reason
+  abbrev pub fault : Option Reason
   fault = firstBroken (shortFor? (jobOf s) area) s
 
-  verdict-is : verdict s area ≡ outcome (jobOf s) fault (firstWithout (jobOf s))
+  pub verdict-is : verdict s area ≡ outcome (jobOf s) fault (firstWithout (jobOf s))
   unfolding verdict
   verdict-is = refl
 
-  planned-when : (w : ℤ) → verdict s area ≡ planned w → (fault ≡ none) × ((firstWithout (jobOf s) ≡ none) × (objective (jobOf s) (best (jobOf s)) ≡ w))
+  pub planned-when : (w : ℤ) → verdict s area ≡ planned w → (fault ≡ none) × ((firstWithout (jobOf s) ≡ none) × (objective (jobOf s) (best (jobOf s)) ≡ w))
   planned-when w e = was-planned (jobOf s) fault (firstWithout (jobOf s)) w (subst (λ v. IsPlanned v w) (sym e ∙ verdict-is) refl)
 
   noFit-when : (l : ℕ) → verdict s area ≡ noFit l → (fault ≡ none) × (firstWithout (jobOf s) ≡ some l)
@@ -148,7 +148,7 @@ module _ (s area : List ℕ) where
       long w e = let h : ¬ (length area < sheetLength (jobOf s)) = sound-iff s (shortFor? (jobOf s) area) .0 (planned-when w e .0) ShortArea in omega arith
 
   -- ---- the third demand
-  lawful-of : fault ≡ none → LawfulJob (jobOf s)
+  pub lawful-of : fault ≡ none → LawfulJob (jobOf s)
   lawful-of e = lawful-job s (lawful (shortFor? (jobOf s) area) s e)
 
   module _ (w : ℤ) (e : verdict s area ≡ planned w) where

@@ -14,7 +14,7 @@ pub mod Lexicographic
 pub mod Best
 -- sums, and the same sum label by label
 pub mod Sums
--- of the kit's `map`: what one computation over a whole table says of each entry
+-- of the kit's `map` and `flatMap`: what one computation over a whole table says of each entry, and parts that agree
 pub mod Maps
 -- the laws put to use
 pub mod Examples

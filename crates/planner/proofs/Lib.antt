@@ -8,7 +8,7 @@ pub mod Merging
 pub mod Counting
 -- whether an equation joins two sets
 pub mod Joining
--- how large the numbers of a family are
+-- 64 bits hold what is made of the numbers of a family
 pub mod Sizes
 -- how large the numbers are through which an equation between two families goes
 pub mod Meeting

@@ -17,8 +17,9 @@ use Rattle.runs.proofs.Turns.{FamilyRun, one-form-moves, one-form-family, upwar
 use Rattle.runs.proofs.Indices.{ratio, Indexed, across, across-in, across-moves}
 use Rattle.runs.proofs.Joins.{join-form, in-join, join-partners, left, right}
 use Rattle.families.specs.Model.{indicesIn}
+use Rattle.families.proofs.Sizes.{many-within}
 use Rattle.planner.specs.Widths.{Turnable, Crossable}
-use Rattle.planner.proofs.Sizes.{crossable, many-within}
+use Rattle.planner.proofs.Sizes.{crossable}
 
 -- a quotient is no larger than what is divided
 ratio-within : (b : ℕ) (n d : ℤ) → Within b n → Within b (ratio n d)

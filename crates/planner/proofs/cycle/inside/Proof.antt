@@ -19,7 +19,8 @@ use Rattle.runs.specs.Workings.{InLimits}
 use Rattle.runs.proofs.Turns.{FamilyRun}
 use Rattle.runs.proofs.Widths.{fits-c}
 use Rattle.families.specs.Model.{coefficient, value, candidate, cycle}
-use Rattle.planner.proofs.Sizes.{fits, held-first, held-step, first-within, step-within, crossable}
+use Rattle.families.proofs.Sizes.{first-within, step-within}
+use Rattle.planner.proofs.Sizes.{fits, held-first, held-step, crossable}
 use Rattle.planner.proofs.cycle.inside.Statement.{statement}
 use Rattle.planner.proofs.cycle.inside.Tie as tie
 

@@ -13,7 +13,8 @@ use Rattle.runs.specs.declared.Run.{Run}
 use Rattle.runs.specs.Run.{empty}
 use Rattle.runs.proofs.Turns.{FamilyRun}
 use Rattle.families.specs.Model.{through}
-use Rattle.planner.proofs.Sizes.{fits, first-within, step-within}
+use Rattle.families.proofs.Sizes.{first-within, step-within}
+use Rattle.planner.proofs.Sizes.{fits}
 use Rattle.planner.proofs.parts.through.Statement.{statement}
 use Rattle.planner.proofs.parts.through.Tie as tie
 use Rattle.planner.proofs.parts.through.Reads as reads

@@ -7,7 +7,8 @@ use Rattle.ints.proofs.{pos, ltZ}
 use Rattle.ints.proofs.Signed.{held}
 use Rattle.runs.specs.declared.Run.{Run}
 use Rattle.runs.proofs.Turns.{FamilyRun, turned, upward}
-use Rattle.planner.proofs.Sizes.{fits, step-within, turnable}
+use Rattle.families.proofs.Sizes.{step-within}
+use Rattle.planner.proofs.Sizes.{fits, turnable}
 use Rattle.planner.proofs.parts.upward.Statement.{statement}
 use Rattle.planner.proofs.parts.upward.Tie as tie
 
