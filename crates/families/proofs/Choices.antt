@@ -4,7 +4,7 @@ use mathlib.Core.Path.{_≡_, refl, sym, _∙_, ap}
 use mathlib.Core.Logic.{_⊎_, inl, inr}
 use mathlib.Core.Bool.{Bool, true, false, cond}
 use Prim.Native.Nat.{ℕ, _-_, _≤_, _<_}
-use native.Mathlib.Decide.{ℕ-discrete}
+use native.Mathlib.Decide.{ℕ-discrete, decLt}
 use lib.ListN.{length, getD}
 use Rattle.ints.proofs.{ℤ, pos, _+ℤ_, _*ℤ_, _≤ℤ_, _<ℤ_, ltZ, List, [], _∷_, arith, lin, lin₀, facts, le-or-lt}
 use Rattle.ints.proofs.Order.{lt-true, lt-false, le-antisym}
@@ -12,6 +12,7 @@ use Rattle.lists.specs.Table.{table}
 use Rattle.lists.specs.Lexicographic.{Lower}
 use Rattle.lists.specs.Best.{greater, earlier}
 use Rattle.lists.specs.Sums.{sum}
+use Rattle.lists.proofs.Lexicographic.{lower-asym}
 use Rattle.lists.proofs.Table.{in-table, table-at, table-rises}
 use Rattle.lists.proofs.Sums.{sum-ext, sum-add, sum-scale}
 use Rattle.jobs.specs.Job.{Job, variable}
@@ -75,6 +76,18 @@ module _ (c : Job) (e : solutions c ≡ table (member c) (fits c)) where
 
   pub members-rise : (i k : ℕ) → i < k → k < fits c → Lower (member c i) (member c k)
   members-rise = table-rises (member c) (fits c) (rw e at (rising-solutions c))
+
+  -- each of them once
+  pub members-once : (i k : ℕ) → i < fits c → k < fits c → member c i ≡ member c k → i ≡ k
+  members-once i k h l q = go (decLt i k) (decLt k i)
+    where
+      apart : (x y : List ℤ) → x ≡ y → ¬ Lower x y
+      apart x y p r = let s : Lower y y = rw p at r in lower-asym y y s s
+
+      go : Dec (i < k) → Dec (k < i) → i ≡ k
+      go (yes a) d = absurd (apart (member c i) (member c k) q (members-rise i k a l))
+      go (no a) (yes b) = absurd (apart (member c k) (member c i) (sym q) (members-rise k i b h))
+      go (no a) (no b) = omega arith
 
   -- ---- the best of them
   -- member k is member b, or member b is better

@@ -41,7 +41,7 @@ advance-few (x ∷ []) i h = refl
 advance-few (x ∷ y ∷ zs) i h = absurd (omega arith)
 
 -- two tables with the same at each place
-same-table : {A : Type 0} (d : A) (f g : ℕ → A) {m n : ℕ} → m ≡ n → ((i : ℕ) → i < m → f i ≡ g i) → table f m ≡ table g n
+pub same-table : {A : Type 0} (d : A) (f g : ℕ → A) {m n : ℕ} → m ≡ n → ((i : ℕ) → i < m → f i ≡ g i) → table f m ≡ table g n
 same-table d f g {m} {n} e same = same-places d (table f m) (table g n) (length-table f m ∙ e ∙ sym (length-table g n)) (λ i h. at i (omega (arith, h, length-table f m)))
   where
     at : (i : ℕ) → i < m → getD (table f m) i d ≡ getD (table g n) i d
@@ -181,8 +181,8 @@ module _ (j : Job) (lawful : LawfulJob j) where
     run-is last-invariant (omega (arith, h, lowest-le j i)) (lowest-self j i) i h refl ∙ sym (family-run-is j i),
   )
 
-  pub family-form : (i : ℕ) → i < length (j .variables) → FamilyRun (familyRun j i)
-  family-form i h = subst FamilyRun (exact i h .1) (last-invariant .form i h)
+  pub family-form : (i : ℕ) → i < length (j .variables) → FamilyRun (readOff (componentJob j (lowest j i)) i)
+  family-form i h = subst FamilyRun (exact i h .1 ∙ family-run-is j i) (last-invariant .form i h)
 
   module _ (l : ℕ) (lead : l ∈ leads j) where
     -- every group's solutions are base + step·k, in order

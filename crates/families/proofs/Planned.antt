@@ -105,7 +105,7 @@ module _ (j : Job) (lawful : LawfulJob j) (g : ℕ → ℕ) (r : ℕ → Run) (t
   gain-within l = sum-within n (1000000 * (2 * bound)) (λ i. pick (eqb (g i) l) (weighed i)) (λ i h. picked (eqb (g i) l) (weighed i) (within-mul (lawful .each-variable i h .weight) (size i h)))
     where
       size : (i : ℕ) → i < n → Within (2 * bound) (r i .step)
-      size i h = step-within (subst FamilyRun (sym (told i h .1)) (family-form j lawful i h))
+      size i h = step-within (subst FamilyRun (sym (run-by i h)) (family-form j lawful i h))
 
       picked : (t : Bool) {b : ℕ} (x : ℤ) → Within b x → Within b (pick t x)
       picked true x w = w

@@ -1,4 +1,4 @@
--- How long a sheet is, where its fields stand, and that what is written on it reads back, as far as it needs no families.
+-- How long a sheet is, where its fields stand, and that what is written on it reads back where it fits its field.
 use mathlib.Core.Path.{_≡_, refl, sym, _∙_, ap}
 use mathlib.Core.List.{List, _++_, flatMap}
 use Prim.Native.Nat.{ℕ, _+_, _*_, _^_, _≤_, _<_}
@@ -10,16 +10,16 @@ use Rattle.runs.specs.Run.{bound}
 use Rattle.lists.specs.Table.{upTo}
 use Rattle.lists.proofs.Places.{length-both, drop-past, length-flatMap}
 use Rattle.lists.proofs.Table.{table-at, length-upTo}
-use Rattle.jobs.specs.Bytes.{unsigned, twosComplement, bytesOf, signedBytes}
+use Rattle.jobs.specs.Bytes.{unsigned, bytesOf, signedBytes}
 use Rattle.jobs.specs.Job.{Job, jobOf}
 use Rattle.jobs.specs.Solution.{number, best}
-use Rattle.jobs.specs.Component.{leads, componentCount, component, groupRows, sheetLength}
-use Rattle.jobs.specs.Family.{componentJob}
+use Rattle.jobs.specs.Component.{lowest, leads, componentCount, component, groupRows, sheetLength}
+use Rattle.jobs.specs.Family.{componentJob, fits, base, step, chosen, slope}
 use Rattle.jobs.specs.Verdict.{Verdict, planned, noFit, refused, verdict}
 use Rattle.jobs.specs.Sheet.{header, variableFields, componentFields, laidOut, areaAfter, sheet}
-use Rattle.jobs.specs.Demands.{worthOn, numberOn, LaidOut}
-use Rattle.jobs.proofs.Writing.{Holds, within-holds, unsigned-first, unsigned-past, unsigned-part, unsigned-bytesOf, signed-back}
-use Rattle.jobs.proofs.Components.{length-leads, component-below}
+use Rattle.jobs.specs.Demands.{worthOn, numberOn, baseOn, stepOn, fitsOn, chosenOn, gainOn, LaidOut}
+use Rattle.jobs.proofs.Writing.{Holds, within-holds, unsigned-first, unsigned-past, unsigned-part, unsigned-bytesOf, signed-field}
+use Rattle.jobs.proofs.Components.{length-leads, component-below, component-lead}
 
 -- ---- how long each part is: the widths of its fields are numerals, so this computes
 pub length-header : (j : Job) (w : ℤ) → length (header j w) ≡ 24
@@ -33,6 +33,19 @@ length-variableFields j x i = refl
 pub length-componentFields : (c : Job) → length (componentFields c) ≡ 16
 unfolding componentFields
 length-componentFields c = refl
+
+-- what a group's row says
+fits-field : (c : Job) → unsigned 4 (componentFields c) 0 ≡ unsigned 4 (bytesOf 4 (fits c)) 0
+unfolding componentFields unsigned
+fits-field c = refl
+
+chosen-field : (c : Job) → unsigned 4 (componentFields c) 4 ≡ unsigned 4 (bytesOf 4 (chosen c)) 0
+unfolding componentFields unsigned
+chosen-field c = refl
+
+gain-field : (c : Job) → unsigned 8 (componentFields c) 8 ≡ unsigned 8 (signedBytes 8 (slope c)) 0
+unfolding componentFields unsigned
+gain-field c = refl
 
 module _ (j : Job) (x : List ℤ) (w : ℤ) where
   abbrev variablePart : List ℕ
@@ -90,23 +103,57 @@ module _ (j : Job) (x : List ℤ) (w : ℤ) where
         ∙ unsigned-part (λ l. componentFields (componentJob j l)) 16 (λ l. length-componentFields (componentJob j l)) (leads j) 0 k g at h l
 
   -- ---- what reads back
+  -- the own job of a variable's group
+  abbrev own : ℕ → Job
+  own i = componentJob j (lowest j i)
+
   number-field : (i : ℕ) → unsigned 4 (variableFields j x i) 0 ≡ unsigned 4 (signedBytes 4 (number x i)) 0
   unfolding variableFields unsigned
   number-field i = refl
+
+  base-field : (i : ℕ) → unsigned 4 (variableFields j x i) 4 ≡ unsigned 4 (signedBytes 4 (number (base (own i)) i)) 0
+  unfolding variableFields unsigned
+  base-field i = refl
+
+  step-field : (i : ℕ) → unsigned 4 (variableFields j x i) 8 ≡ unsigned 4 (signedBytes 4 (number (step (own i)) i)) 0
+  unfolding variableFields unsigned
+  step-field i = refl
 
   worth-field : unsigned 8 (header j w) 16 ≡ unsigned 8 (signedBytes 8 w) 0
   unfolding header unsigned
   worth-field = refl
 
   module _ (rest : List ℕ) where
-    pub number-back : (i : ℕ) → i < length (j .variables) → Within bound (number x i) → numberOn (laidOut j x w ++ rest) i ≡ number x i
-    number-back i h b =
-        let e : 24 + 16 * i ≡ 24 + 16 * i + 0 = omega arith in
-        ap (twosComplement 4) (ap (unsigned 4 (laidOut j x w ++ rest)) e ∙ in-variable rest 4 i 0 h (omega arith) ∙ number-field i)
-        ∙ signed-back 4 (number x i) (within-holds 4 bound (number x i) (omega arith) b)
-
     pub worth-back : Holds 8 w → worthOn (laidOut j x w ++ rest) ≡ w
-    worth-back h = ap (twosComplement 8) (in-header rest 8 16 (omega arith) ∙ worth-field) ∙ signed-back 8 w h
+    worth-back h = signed-field 8 w (in-header rest 8 16 (omega arith) ∙ worth-field) h
+
+    -- of the row of variable i
+    module _ (i : ℕ) (h : i < length (j .variables)) where
+      pub number-back : Within bound (number x i) → numberOn (laidOut j x w ++ rest) i ≡ number x i
+      number-back b =
+          let e : 24 + 16 * i ≡ 24 + 16 * i + 0 = omega arith in
+          signed-field 4 (number x i) (ap (unsigned 4 (laidOut j x w ++ rest)) e ∙ in-variable rest 4 i 0 h (omega arith) ∙ number-field i) (within-holds 4 bound (number x i) (omega arith) b)
+
+      pub base-back : Within bound (number (base (componentJob j (lowest j i))) i) → baseOn (laidOut j x w ++ rest) i ≡ number (base (componentJob j (lowest j i))) i
+      base-back b = signed-field 4 (number (base (own i)) i) (in-variable rest 4 i 4 h (omega arith) ∙ base-field i) (within-holds 4 bound (number (base (own i)) i) (omega arith) b)
+
+      pub step-back : Within (2 * bound) (number (step (componentJob j (lowest j i))) i) → stepOn (laidOut j x w ++ rest) i ≡ number (step (componentJob j (lowest j i))) i
+      step-back b = signed-field 4 (number (step (own i)) i) (in-variable rest 4 i 8 h (omega arith) ∙ step-field i) (within-holds 4 (2 * bound) (number (step (own i)) i) (omega arith) b)
+
+      -- and of the row of its group
+      in-group : (k at : ℕ) → at + k ≤ 16 → unsigned k (laidOut j x w ++ rest) (groupRows j + 16 * component j i + at) ≡ unsigned k (componentFields (own i)) at
+      in-group k at l = in-component rest k (component j i) at (component-below j i h) l ∙ ap (λ l. unsigned k (componentFields (componentJob j l)) at) (component-lead j i h)
+
+      pub fits-back : fits (componentJob j (lowest j i)) < 4294967296 → fitsOn j (laidOut j x w ++ rest) (component j i) ≡ fits (componentJob j (lowest j i))
+      fits-back l =
+          let e : groupRows j + 16 * component j i ≡ groupRows j + 16 * component j i + 0 = omega arith in
+          ap (unsigned 4 (laidOut j x w ++ rest)) e ∙ in-group 4 0 (omega arith) ∙ fits-field (own i) ∙ unsigned-bytesOf 4 (fits (own i)) l
+
+      pub chosen-back : chosen (componentJob j (lowest j i)) < 4294967296 → chosenOn j (laidOut j x w ++ rest) (component j i) ≡ chosen (componentJob j (lowest j i))
+      chosen-back l = in-group 4 4 (omega arith) ∙ chosen-field (own i) ∙ unsigned-bytesOf 4 (chosen (own i)) l
+
+      pub gain-back : Holds 8 (slope (componentJob j (lowest j i))) → gainOn j (laidOut j x w ++ rest) (component j i) ≡ slope (componentJob j (lowest j i))
+      gain-back l = signed-field 8 (slope (own i)) (in-group 8 8 (omega arith) ∙ gain-field (own i)) l
 
     -- an unsigned field of the header, and of a variable's row
     header-back : (k y at : ℕ) → at + k ≤ 24 → unsigned k (header j w) at ≡ unsigned k (bytesOf k y) 0 → y < 256 ^ k → unsigned k (laidOut j x w ++ rest) at ≡ y

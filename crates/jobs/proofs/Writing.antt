@@ -120,3 +120,7 @@ signed-back k x h =
     let r = natAbs (floorMod x (pos (256 ^ k))) in
     ap (twosComplement k) (ap (λ s. unsigned k s 0) (signedBytes-is k x) ∙ unsigned-bytesOf k r (below (256 ^ k) x (h .low) (h .high)))
     ∙ twosComplement-back k x h
+
+-- and so does a field that holds them
+pub signed-field : (k : ℕ) {u : ℕ} (x : ℤ) → u ≡ unsigned k (signedBytes k x) 0 → Holds k x → twosComplement k u ≡ x
+signed-field k x e h = ap (twosComplement k) e ∙ signed-back k x h

@@ -1,0 +1,204 @@
+-- The second demand: base, steps and fits as they stand on a planned sheet give every solution of a group exactly once, and each
+-- variable's number stands at its group's chosen k.
+use mathlib.Core.Path.{_≡_, refl, sym, _∙_, ap, ap₂, subst}
+use mathlib.Core.Logic.{_↔_, _≢_}
+use mathlib.Core.Bool.{cond}
+use mathlib.Core.Option.{none}
+use mathlib.Core.List.{List, _++_}
+use Prim.Native.Nat.{ℕ, _+_, _*_, _≤_, _<_}
+use native.Mathlib.Decide.{ℕ-discrete}
+use lib.Dec.{eqb}
+use lib.ListN.{length, drop}
+use borrow.Author.Tests.{eq-eqb, ne-eqb}
+use Rattle.ints.specs.Within.{Within}
+use Rattle.ints.proofs.{ℤ, pos, _+ℤ_, _*ℤ_, _<ℤ_, arith}
+use Rattle.lists.specs.Members.{_∈_}
+use Rattle.lists.specs.Table.{table}
+use Rattle.lists.proofs.Table.{table-at}
+use Rattle.runs.specs.Run.{bound}
+use Rattle.jobs.specs.Bytes.{u32, i64}
+use Rattle.jobs.specs.Job.{Job, jobOf}
+use Rattle.jobs.specs.Solution.{number, IsSolution, objective, best}
+use Rattle.jobs.specs.Component.{lowest, leads, component, sheetLength}
+use Rattle.jobs.specs.Family.{componentJob, fits, base, step, chosen, slope}
+use Rattle.jobs.specs.Verdict.{planned, firstWithout, verdict}
+use Rattle.jobs.specs.Sheet.{laidOut, sheet}
+use Rattle.jobs.specs.Demands.{numberOn, baseOn, stepOn, groupOn, fitsOn, chosenOn, gainOn, memberOn, FamilyOn, FamiliesOn, GivesFits}
+use Rattle.jobs.proofs.Lawful.{LawfulJob}
+use Rattle.jobs.proofs.Components.{in-leads, lead-in, joined-iff, component-iff}
+use Rattle.jobs.proofs.Assembly.{none-without, component-length, outside-zero}
+use Rattle.jobs.proofs.Writing.{within-holds}
+use Rattle.jobs.proofs.Fields.{number-back, base-back, step-back, fits-back, chosen-back, gain-back, laidOut-back, if-planned}
+use Rattle.jobs.proofs.Promises.{optimal-best, number-within, planned-when, lawful-of, gives-fits}
+use Rattle.families.specs.Family.{member, IsFamily, familyRun}
+use Rattle.families.proofs.Sizes.{first-within, step-within, many-within}
+use Rattle.families.proofs.Exact.{same-table, family-form, are-families}
+use Rattle.families.proofs.Choices.{choice-below, member-solution, solution-member, members-once}
+use Rattle.families.proofs.Wholes.{objective-own}
+use Rattle.families.proofs.Plans.{choice-in, best-at}
+use Rattle.families.proofs.Planned.{gain-by, gain-within}
+
+slope-is : (c : Job) → slope c ≡ objective c (step c)
+unfolding slope
+slope-is c = refl
+
+-- ---- the sheet of a lawful job in which no group is without a solution, with anything behind it
+module _ (j : Job) (lawful : LawfulJob j) (full : firstWithout j ≡ none) (w : ℤ) (rest : List ℕ) where
+  abbrev after : List ℕ
+  after = laidOut j (best j) w ++ rest
+
+  abbrev n : ℕ
+  n = length (j .variables)
+
+  abbrev own : ℕ → Job
+  own i = componentJob j (lowest j i)
+
+  fit : (l : ℕ) → l ∈ leads j → fits (componentJob j l) ≢ 0
+  fit = none-without j full
+
+  chosen-below : (l : ℕ) → l ∈ leads j → chosen (componentJob j l) < fits (componentJob j l)
+  chosen-below l m = let c = componentJob j l in subst (λ k. k < fits c) (sym (choice-in j lawful fit l m)) (choice-below (slope c) (fits c) (omega (arith, fit l m)))
+
+  -- ---- what stands in each field of the rows of variable i and of its group
+  module _ (i : ℕ) (h : i < length (j .variables)) where
+    number-on : numberOn after i ≡ number (best j) i
+    number-on = number-back j (best j) w rest i h (number-within j lawful (best j) (optimal-best j lawful full .solution) i h)
+
+    base-on : baseOn after i ≡ number (base (own i)) i
+    base-on = base-back j (best j) w rest i h (first-within (family-form j lawful i h))
+
+    step-on : stepOn after i ≡ number (step (own i)) i
+    step-on = step-back j (best j) w rest i h (step-within (family-form j lawful i h))
+
+    group-on : groupOn after i ≡ component j i
+    group-on = laidOut-back j (best j) w rest (omega (arith, lawful .variables)) .group i h
+
+    fits-small : fits (own i) ≤ 2000000001
+    fits-small = many-within (family-form j lawful i h)
+
+    fits-on : fitsOn j after (component j i) ≡ fits (own i)
+    fits-on = fits-back j (best j) w rest i h (omega (arith, fits-small))
+
+    chosen-on : chosenOn j after (component j i) ≡ chosen (own i)
+    chosen-on = chosen-back j (best j) w rest i h (omega (arith, fits-small, chosen-below (lowest j i) (lead-in j i h)))
+
+    gain-on : gainOn j after (component j i) ≡ slope (own i)
+    gain-on = gain-back j (best j) w rest i h (within-holds 8 (n * (1000000 * (2 * bound))) (slope (own i)) (omega (arith, lawful .variables)) size)
+      where
+        -- by the sum of weight × step, with the labels and the runs of the definitions themselves
+        size : Within (n * (1000000 * (2 * bound))) (slope (own i))
+        size =
+            subst (Within (n * (1000000 * (2 * bound)))) (gain-by j lawful (lowest j) (familyRun j) (λ i h. (refl, refl)) (lowest j i))
+            (gain-within j lawful (lowest j) (familyRun j) (λ i h. (refl, refl)) (lowest j i))
+
+  -- ---- the group of l
+  module _ (l : ℕ) (m : l ∈ leads j) where
+    abbrev c : Job
+    c = componentJob j l
+
+    abbrev g : ℕ
+    g = component j l
+
+    below : l < n
+    below = in-leads j l .0 m .0
+
+    self : lowest j l ≡ l
+    self = in-leads j l .0 m .1
+
+    family : IsFamily j l
+    family = are-families j lawful l m
+
+    -- the fields of its row, as its own job reads them
+    own-fits : fitsOn c after g ≡ fits c
+    own-fits = ap (λ n. u32 after (24 + 16 * n + 16 * g)) (component-length j l) ∙ fits-on l below ∙ ap (λ k. fits (componentJob j k)) self
+
+    own-chosen : chosenOn c after g ≡ chosen c
+    own-chosen = ap (λ n. u32 after (24 + 16 * n + 16 * g + 4)) (component-length j l) ∙ chosen-on l below ∙ ap (λ k. chosen (componentJob j k)) self
+
+    own-gain : gainOn c after g ≡ slope c
+    own-gain = ap (λ n. i64 after (24 + 16 * n + 16 * g + 8)) (component-length j l) ∙ gain-on l below ∙ ap (λ k. slope (componentJob j k)) self
+
+    -- its variables
+    inside : (i : ℕ) → i < n → (groupOn after i ≡ g) ↔ (lowest j i ≡ l)
+    inside i h = (
+      λ q. joined-iff j i l .0 (component-iff j i l h below .0 (sym (group-on i h) ∙ q)) ∙ self,
+      λ e. group-on i h ∙ component-iff j i l h below .1 (joined-iff j i l .1 (e ∙ sym self)),
+    )
+
+    own-base : (i : ℕ) → i < n → lowest j i ≡ l → baseOn after i ≡ number (base c) i
+    own-base i h e = base-on i h ∙ ap (λ k. number (base (componentJob j k)) i) e
+
+    own-step : (i : ℕ) → i < n → lowest j i ≡ l → stepOn after i ≡ number (step c) i
+    own-step i h e = step-on i h ∙ ap (λ k. number (step (componentJob j k)) i) e
+
+    -- so its members are those of the sheet
+    member-on : (k : ℕ) → k < fits c → memberOn c after g k ≡ member c k
+    member-on k h = same-table (pos 0) shown told refl (λ i b. at i (omega (arith, b, component-length j l)) (ℕ-discrete (lowest j i) l))
+      where
+        shown : ℕ → ℤ
+        shown i = cond (eqb (groupOn after i) g) (baseOn after i +ℤ stepOn after i *ℤ pos k) (pos 0)
+
+        told : ℕ → ℤ
+        told i = number (base c) i +ℤ number (step c) i *ℤ pos k
+
+        at : (i : ℕ) → i < n → Dec (lowest j i ≡ l) → shown i ≡ told i
+        at i b (yes e) =
+            ap (λ t. cond t (baseOn after i +ℤ stepOn after i *ℤ pos k) (pos 0)) (eq-eqb (groupOn after i) g (inside i b .1 e))
+            ∙ ap₂ (λ u v. u +ℤ v *ℤ pos k) (own-base i b e) (own-step i b e)
+        at i b (no d) =
+            ap (λ t. cond t (baseOn after i +ℤ stepOn after i *ℤ pos k) (pos 0)) (ne-eqb (groupOn after i) g (λ q. d (inside i b .0 q)))
+            ∙ sym (outside-zero j l (member c k) (member-solution c (family .all) k h) i b d)
+            ∙ table-at told (length (c .variables)) i (pos 0) (omega (arith, b, component-length j l))
+
+    family-on : FamilyOn (componentJob j l) l (component j l) after
+    family-on = record { all = all; once = once; rises = rises; rests = rests; chosen = place; gain = gain }
+      where
+        small : (k : ℕ) → k < fitsOn c after g → k < fits c
+        small k h = omega (arith, h, own-fits)
+
+        all : (x : List ℤ) → IsSolution c x ↔ ((k : ℕ) × ((k < fitsOn c after g) × (x ≡ memberOn c after g k)))
+        all x = (
+          λ s. let (k, h, q) = solution-member c (family .all) x s in (k, (omega (arith, h, own-fits), q ∙ sym (member-on k h))),
+          λ (k, h). let b = small k (h .0) in subst (IsSolution c) (sym (h .1 ∙ member-on k b)) (member-solution c (family .all) k b),
+        )
+
+        once : (k k′ : ℕ) → k < fitsOn c after g → k′ < fitsOn c after g → memberOn c after g k ≡ memberOn c after g k′ → k ≡ k′
+        once k k′ h h′ q =
+            members-once c (family .all) k k′ (small k h) (small k′ h′) (sym (member-on k (small k h)) ∙ q ∙ member-on k′ (small k′ h′))
+
+        rises : 2 ≤ fitsOn c after g → pos 0 <ℤ stepOn after l
+        rises h = subst (λ x. pos 0 <ℤ x) (sym (own-step l below self)) (family .rises (omega (arith, h, own-fits)))
+
+        rests : fitsOn c after g ≡ 1 → (i : ℕ) → i < length (c .variables) → groupOn after i ≡ g → stepOn after i ≡ pos 0
+        rests e i h q =
+            let b : i < n = omega (arith, h, component-length j l) in
+            own-step i b (inside i b .0 q) ∙ family .rests (omega (arith, e, own-fits)) i
+
+        place : chosenOn c after g < fitsOn c after g
+        place = omega (arith, own-chosen, own-fits, chosen-below l m)
+
+        gain : gainOn c after g ≡ objective c (table (stepOn after) (length (c .variables)))
+        gain =
+            own-gain ∙ slope-is c
+            ∙ objective-own j l (step c) (stepOn after) (λ i h e. sym (own-step i h e))
+            ∙ sym (objective-own j l (table (stepOn after) (length (c .variables))) (stepOn after)
+            (λ i h e. table-at (stepOn after) (length (c .variables)) i (pos 0) (omega (arith, h, component-length j l))))
+
+  families-laid : FamiliesOn j after
+  families-laid = record { number = number-is; families = family-on }
+    where
+      number-is : (i : ℕ) → i < n → numberOn after i ≡ baseOn after i +ℤ stepOn after i *ℤ pos (chosenOn j after (groupOn after i))
+      number-is i h =
+          number-on i h ∙ best-at j lawful fit i h
+          ∙ sym (ap₂ (λ u v. u +ℤ v *ℤ pos (chosenOn j after (groupOn after i))) (base-on i h) (step-on i h)
+          ∙ ap (λ k. number (base (own i)) i +ℤ number (step (own i)) i *ℤ pos k) (ap (chosenOn j after) (group-on i h) ∙ chosen-on i h))
+
+-- ---- so of any bytes
+module _ (s area : List ℕ) where
+  pub families-on : (w : ℤ) → verdict s area ≡ planned w → FamiliesOn (jobOf s) (sheet s area)
+  families-on w e =
+      let (o, h) = planned-when s area w e in
+      subst (FamiliesOn (jobOf s)) (sym (if-planned s area e)) (families-laid (jobOf s) (lawful-of s area o) (h .0) w (drop (sheetLength (jobOf s)) area))
+
+  pub definitions-give-fits : GivesFits s area (verdict s area) (sheet s area)
+  definitions-give-fits = gives-fits s area families-on
