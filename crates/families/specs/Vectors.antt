@@ -5,7 +5,7 @@ use mathlib.Core.Option.{Option, none, some}
 use mathlib.Core.List.{List, [], _∷_, _++_, map}
 use Prim.Native.Nat.{ℕ, _+_, _*_, _-_}
 use lib.Dec.{eqb}
-use lib.ListN.{length}
+use lib.ListN.{length, drop}
 use lib.IntN.{ℤ, pos, negℤ}
 use Rattle.ints.specs.Floor.{floorDiv, floorMod}
 use Rattle.lists.specs.Members.{_∈_}
@@ -30,13 +30,21 @@ abbrev run : ℤ → ℤ → ℕ → Run
 run first step many = record { first = first; step = step; many = many }
 
 -- ---- document 01's jobs marked *
--- the bytes of a job, and what is expected: of each count the lowest count of its group; how many groups there are; and of each
--- count its base, its step and its group's fits
+-- the bytes of a job, and what is expected: of each count the lowest count of its group; how many groups there are; of each
+-- count its base, its step and its group's fits; how many bytes a sheet takes, 24 + 16n + 16g; the verdict; and all the bytes
+-- that are written, none where there is no fit
 pub record Worked : Type 0 where
   pub job : List ℕ
   pub groups : List ℕ
   pub g : ℕ
   pub runs : List Run
+  pub room : ℕ
+  pub verdict : Verdict
+  pub sheet : List ℕ
+
+-- what stands in the area afterwards: those bytes, and behind them what stood there before
+abbrev pub after : Worked → List ℕ → List ℕ
+after v area = v .sheet ++ drop (length (v .sheet)) area
 
 -- four bytes of k and of −k, for k from 1 to 255; those of 0 are `plus 0`
 abbrev plus : ℕ → List ℕ
@@ -90,9 +98,90 @@ jobM =
 abbrev widest : List ℕ
 widest = header 1 0 36 36 ++ count (0 ∷ 54 ∷ 101 ∷ 196 ∷ []) (0 ∷ 202 ∷ 154 ∷ 59 ∷ []) (64 ∷ 66 ∷ 15 ∷ 0 ∷ [])
 
--- what is expected of two counts in one group
-abbrev tied : List ℕ → Run → Run → Worked
-tied job run0 run1 = record { job = job; groups = 0 ∷ 0 ∷ []; g = 1; runs = run0 ∷ run1 ∷ [] }
+-- ---- their sheets: a row stands on a line, under its fields
+abbrev sheetM : List ℕ
+sheetM =
+    -- 4 counts, 2 groups, their rows at 88, worth 314
+    65 ∷ 78 ∷ 83 ∷ 49 ∷ 4 ∷ 0 ∷ 2 ∷ 0 ∷ 24 ∷ 0 ∷ 0 ∷ 0 ∷ 88 ∷ 0 ∷ 0 ∷ 0 ∷ 58 ∷ 1 ∷ 0 ∷ 0 ∷ 0 ∷ 0 ∷ 0 ∷ 0 ∷ [] ++
+    -- count 0: number 11, base 2, step 3, group 0
+    11 ∷ 0 ∷ 0 ∷ 0 ∷ 2 ∷ 0 ∷ 0 ∷ 0 ∷ 3 ∷ 0 ∷ 0 ∷ 0 ∷ 0 ∷ 0 ∷ 0 ∷ 0 ∷ [] ++
+    -- count 1: number 176, base 32, step 48, group 0
+    176 ∷ 0 ∷ 0 ∷ 0 ∷ 32 ∷ 0 ∷ 0 ∷ 0 ∷ 48 ∷ 0 ∷ 0 ∷ 0 ∷ 0 ∷ 0 ∷ 0 ∷ 0 ∷ [] ++
+    -- count 2: number 6, base 0, step 2, group 0
+    6 ∷ 0 ∷ 0 ∷ 0 ∷ 0 ∷ 0 ∷ 0 ∷ 0 ∷ 2 ∷ 0 ∷ 0 ∷ 0 ∷ 0 ∷ 0 ∷ 0 ∷ 0 ∷ [] ++
+    -- count 3: number 2, base 2, step 1, group 1
+    2 ∷ 0 ∷ 0 ∷ 0 ∷ 2 ∷ 0 ∷ 0 ∷ 0 ∷ 1 ∷ 0 ∷ 0 ∷ 0 ∷ 1 ∷ 0 ∷ 0 ∷ 0 ∷ [] ++
+    -- group 0: fits 4, k 3, gain 82
+    4 ∷ 0 ∷ 0 ∷ 0 ∷ 3 ∷ 0 ∷ 0 ∷ 0 ∷ 82 ∷ 0 ∷ 0 ∷ 0 ∷ 0 ∷ 0 ∷ 0 ∷ 0 ∷ [] ++
+    -- group 1: fits 4, k 0, gain 0
+    4 ∷ 0 ∷ 0 ∷ 0 ∷ 0 ∷ 0 ∷ 0 ∷ 0 ∷ 0 ∷ 0 ∷ 0 ∷ 0 ∷ 0 ∷ 0 ∷ 0 ∷ 0 ∷ []
+
+-- of no counts
+abbrev emptySheet : List ℕ
+emptySheet =
+    -- no counts, no groups, their rows at 24, worth 0
+    65 ∷ 78 ∷ 83 ∷ 49 ∷ 0 ∷ 0 ∷ 0 ∷ 0 ∷ 24 ∷ 0 ∷ 0 ∷ 0 ∷ 24 ∷ 0 ∷ 0 ∷ 0 ∷ 0 ∷ 0 ∷ 0 ∷ 0 ∷ 0 ∷ 0 ∷ 0 ∷ 0 ∷ []
+
+-- of c0 + c1 = 5 and c0 − c1 = 1
+abbrev singleSheet : List ℕ
+singleSheet =
+    -- 2 counts, 1 group, its row at 56, worth 0
+    65 ∷ 78 ∷ 83 ∷ 49 ∷ 2 ∷ 0 ∷ 1 ∷ 0 ∷ 24 ∷ 0 ∷ 0 ∷ 0 ∷ 56 ∷ 0 ∷ 0 ∷ 0 ∷ 0 ∷ 0 ∷ 0 ∷ 0 ∷ 0 ∷ 0 ∷ 0 ∷ 0 ∷ [] ++
+    -- count 0: number 3, base 3, step 0, group 0
+    3 ∷ 0 ∷ 0 ∷ 0 ∷ 3 ∷ 0 ∷ 0 ∷ 0 ∷ 0 ∷ 0 ∷ 0 ∷ 0 ∷ 0 ∷ 0 ∷ 0 ∷ 0 ∷ [] ++
+    -- count 1: number 2, base 2, step 0, group 0
+    2 ∷ 0 ∷ 0 ∷ 0 ∷ 2 ∷ 0 ∷ 0 ∷ 0 ∷ 0 ∷ 0 ∷ 0 ∷ 0 ∷ 0 ∷ 0 ∷ 0 ∷ 0 ∷ [] ++
+    -- group 0: fits 1, k 0, gain 0
+    1 ∷ 0 ∷ 0 ∷ 0 ∷ 0 ∷ 0 ∷ 0 ∷ 0 ∷ 0 ∷ 0 ∷ 0 ∷ 0 ∷ 0 ∷ 0 ∷ 0 ∷ 0 ∷ []
+
+-- of c0 − c1 = 0 twice: all are worth the same, and the lowest c0 comes first
+abbrev redundantSheet : List ℕ
+redundantSheet =
+    -- 2 counts, 1 group, its row at 56, worth 0
+    65 ∷ 78 ∷ 83 ∷ 49 ∷ 2 ∷ 0 ∷ 1 ∷ 0 ∷ 24 ∷ 0 ∷ 0 ∷ 0 ∷ 56 ∷ 0 ∷ 0 ∷ 0 ∷ 0 ∷ 0 ∷ 0 ∷ 0 ∷ 0 ∷ 0 ∷ 0 ∷ 0 ∷ [] ++
+    -- count 0: number 0, base 0, step 1, group 0
+    0 ∷ 0 ∷ 0 ∷ 0 ∷ 0 ∷ 0 ∷ 0 ∷ 0 ∷ 1 ∷ 0 ∷ 0 ∷ 0 ∷ 0 ∷ 0 ∷ 0 ∷ 0 ∷ [] ++
+    -- count 1: number 0, base 0, step 1, group 0
+    0 ∷ 0 ∷ 0 ∷ 0 ∷ 0 ∷ 0 ∷ 0 ∷ 0 ∷ 1 ∷ 0 ∷ 0 ∷ 0 ∷ 0 ∷ 0 ∷ 0 ∷ 0 ∷ [] ++
+    -- group 0: fits 4, k 0, gain 0
+    4 ∷ 0 ∷ 0 ∷ 0 ∷ 0 ∷ 0 ∷ 0 ∷ 0 ∷ 0 ∷ 0 ∷ 0 ∷ 0 ∷ 0 ∷ 0 ∷ 0 ∷ 0 ∷ []
+
+-- of c0 + 2·c1 = 0
+abbrev slantedSheet : List ℕ
+slantedSheet =
+    -- 2 counts, 1 group, its row at 56, worth 2
+    65 ∷ 78 ∷ 83 ∷ 49 ∷ 2 ∷ 0 ∷ 1 ∷ 0 ∷ 24 ∷ 0 ∷ 0 ∷ 0 ∷ 56 ∷ 0 ∷ 0 ∷ 0 ∷ 2 ∷ 0 ∷ 0 ∷ 0 ∷ 0 ∷ 0 ∷ 0 ∷ 0 ∷ [] ++
+    -- count 0: number −4, base −4, step 2, group 0
+    252 ∷ 255 ∷ 255 ∷ 255 ∷ 252 ∷ 255 ∷ 255 ∷ 255 ∷ 2 ∷ 0 ∷ 0 ∷ 0 ∷ 0 ∷ 0 ∷ 0 ∷ 0 ∷ [] ++
+    -- count 1: number 2, base 2, step −1, group 0
+    2 ∷ 0 ∷ 0 ∷ 0 ∷ 2 ∷ 0 ∷ 0 ∷ 0 ∷ 255 ∷ 255 ∷ 255 ∷ 255 ∷ 0 ∷ 0 ∷ 0 ∷ 0 ∷ [] ++
+    -- group 0: fits 5, k 0, gain −1
+    5 ∷ 0 ∷ 0 ∷ 0 ∷ 0 ∷ 0 ∷ 0 ∷ 0 ∷ 255 ∷ 255 ∷ 255 ∷ 255 ∷ 255 ∷ 255 ∷ 255 ∷ 255 ∷ []
+
+abbrev widestSheet : List ℕ
+widestSheet =
+    -- 1 count, 1 group, its row at 40, worth 1,000,000,000,000,000
+    65 ∷ 78 ∷ 83 ∷ 49 ∷ 1 ∷ 0 ∷ 1 ∷ 0 ∷ 24 ∷ 0 ∷ 0 ∷ 0 ∷ 40 ∷ 0 ∷ 0 ∷ 0 ∷ 0 ∷ 128 ∷ 198 ∷ 164 ∷ 126 ∷ 141 ∷ 3 ∷ 0 ∷ [] ++
+    -- count 0: number 1,000,000,000, base −1,000,000,000, step 1, group 0
+    0 ∷ 202 ∷ 154 ∷ 59 ∷ 0 ∷ 54 ∷ 101 ∷ 196 ∷ 1 ∷ 0 ∷ 0 ∷ 0 ∷ 0 ∷ 0 ∷ 0 ∷ 0 ∷ [] ++
+    -- group 0: fits 2,000,000,001, k 2,000,000,000, gain 1,000,000
+    1 ∷ 148 ∷ 53 ∷ 119 ∷ 0 ∷ 148 ∷ 53 ∷ 119 ∷ 64 ∷ 66 ∷ 15 ∷ 0 ∷ 0 ∷ 0 ∷ 0 ∷ 0 ∷ []
+
+-- ---- the table
+-- what is expected of two counts in one group, and where they have no fit
+abbrev tied : List ℕ → Run → Run → Verdict → List ℕ → Worked
+tied job run0 run1 verdict sheet = record {
+  job = job;
+  groups = 0 ∷ 0 ∷ [];
+  g = 1;
+  runs = run0 ∷ run1 ∷ [];
+  room = 72;
+  verdict = verdict;
+  sheet = sheet;
+}
+
+abbrev without : List ℕ → Worked
+without job = tied job empty empty (noFit 0) []
 
 abbrev pub markedJobs : List Worked
 markedJobs =
@@ -102,24 +191,35 @@ markedJobs =
       groups = 0 ∷ 0 ∷ 0 ∷ 3 ∷ [];
       g = 2;
       runs = run (pos 2) (pos 3) 4 ∷ run (pos 32) (pos 48) 4 ∷ run (pos 0) (pos 2) 4 ∷ run (pos 2) (pos 1) 4 ∷ [];
+      room = 120;
+      verdict = planned (pos 314);
+      sheet = sheetM;
     } ∷
     -- no counts
-    record { job = header 0 0 24 24; groups = []; g = 0; runs = [] } ∷
+    record { job = header 0 0 24 24; groups = []; g = 0; runs = []; room = 24; verdict = planned (pos 0); sheet = emptySheet } ∷
     -- 2·c0 + 4·c1 = 7
-    tied (once (plain 9) (plain 9) (equation 0 1 (plus 2) (plus 4) 7)) empty empty ∷
+    without (once (plain 9) (plain 9) (equation 0 1 (plus 2) (plus 4) 7)) ∷
     -- 3·c0 − 5·c1 = 0: of 1..4 none is a multiple of 5
-    tied (once (count (plus 1) (plus 4) (plus 0)) (plain 9) (equation 0 1 (plus 3) (minus 5) 0)) empty empty ∷
+    without (once (count (plus 1) (plus 4) (plus 0)) (plain 9) (equation 0 1 (plus 3) (minus 5) 0)) ∷
     -- a ring whose single candidate is 3½ and 1½, and one where it is 3 and 2
-    tied (twice (plain 9) (plain 9) (total 5) (difference 2)) empty empty ∷
-    tied (twice (plain 9) (plain 9) (total 5) (difference 1)) (run (pos 3) (pos 0) 1) (run (pos 2) (pos 0) 1) ∷
+    without (twice (plain 9) (plain 9) (total 5) (difference 2)) ∷
+    tied (twice (plain 9) (plain 9) (total 5) (difference 1)) (run (pos 3) (pos 0) 1) (run (pos 2) (pos 0) 1) (planned (pos 0)) singleSheet ∷
     -- a ring that is redundant, and one that leaves none
-    tied (twice (plain 3) (plain 3) (difference 0) (difference 0)) (run (pos 0) (pos 1) 4) (run (pos 0) (pos 1) 4) ∷
-    tied (twice (plain 3) (plain 3) (difference 0) (difference 1)) empty empty ∷
+    tied (twice (plain 3) (plain 3) (difference 0) (difference 0)) (run (pos 0) (pos 1) 4) (run (pos 0) (pos 1) 4) (planned (pos 0)) redundantSheet ∷
+    without (twice (plain 3) (plain 3) (difference 0) (difference 1)) ∷
     -- c0 + 2·c1 = 0
     tied (once (count (minus 5) (plus 5) (plus 0)) (count (minus 3) (plus 3) (plus 1)) (equation 0 1 (plus 1) (plus 2) 0))
-    (run (negℤ (pos 4)) (pos 2) 5) (run (pos 2) (negℤ (pos 1)) 5) ∷
+    (run (negℤ (pos 4)) (pos 2) 5) (run (pos 2) (negℤ (pos 1)) 5) (planned (pos 2)) slantedSheet ∷
     -- the full range
-    record { job = widest; groups = 0 ∷ []; g = 1; runs = run (negℤ (pos 1000000000)) (pos 1) 2000000001 ∷ [] } ∷ []
+    record {
+      job = widest;
+      groups = 0 ∷ [];
+      g = 1;
+      runs = run (negℤ (pos 1000000000)) (pos 1) 2000000001 ∷ [];
+      room = 56;
+      verdict = planned (pos 1000000000000000);
+      sheet = widestSheet;
+    } ∷ []
 
 -- the lowest variable of each group
 abbrev pub labels : State → List ℕ
