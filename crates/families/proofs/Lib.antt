@@ -1,5 +1,5 @@
 -- The theorems, in the order in which they rest on each other. What they say to a reader stands in Invariants, Exact, Wholes,
--- Plans, Planned and Sheets; the planner's proofs also go by the steps before them.
+-- Plans, Planned, Marked and Sheets; the planner's proofs also go by the steps before them.
 
 -- lines that rise, fall or are level
 pub mod Lines
@@ -35,5 +35,7 @@ pub mod Wholes
 pub mod Plans
 -- the choice and the sheet of the model are those of the definitions
 pub mod Planned
+-- document 01's ten jobs marked *: bytes in, verdict and whole sheet out
+pub mod Marked
 -- what a planned sheet says of the groups: the second demand
 pub mod Sheets

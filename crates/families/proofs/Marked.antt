@@ -1,0 +1,120 @@
+-- Document 01's ten jobs marked *, by one theorem over a table of them: the verdict and the whole area afterwards, for any area
+-- that is lent. The definitions search, and one of these jobs has two thousand million fit-outs; so what is computed, once for
+-- the whole table, is the model, which gives the same.
+use mathlib.Core.Path.{_≡_, refl, sym, _∙_, ap}
+use mathlib.Core.Option.{none}
+use mathlib.Core.List.{List, [], _++_, map}
+use Prim.Native.Nat.{ℕ, _+_, _≤_, _<_}
+use native.Mathlib.Omega.{arith}
+use lib.ListN.{length, drop}
+use Rattle.lists.specs.Members.{_∈_}
+use Rattle.lists.specs.Table.{table}
+use Rattle.lists.proofs.Maps.{same-values}
+use Rattle.lists.proofs.Table.{length-table}
+use Rattle.runs.specs.declared.Run.{Run}
+use Rattle.jobs.specs.Job.{Job, jobOf}
+use Rattle.jobs.specs.Component.{sheetLength}
+use Rattle.jobs.specs.Faults.{Answer, accepted, checked}
+use Rattle.jobs.specs.Verdict.{Verdict, planned, noFit, refused, firstWithout, outcome, shortFor?, verdict}
+use Rattle.jobs.specs.Sheet.{sheet}
+use Rattle.jobs.proofs.Faults.{accepted-none, fault-short, fault-none}
+use Rattle.jobs.proofs.Fields.{if-refused}
+use Rattle.jobs.proofs.Promises.{verdict-is}
+use Rattle.families.specs.Model.{groupAt, runAt, families}
+use Rattle.families.specs.Plan.{emptyBy, worthBy, laidOutBy, outcomeBy, verdictBy, written, sheetBy}
+use Rattle.families.specs.Vectors.{Worked, after, markedJobs}
+use Rattle.families.proofs.Planned.{verdict-by, sheet-by}
+
+-- ---- of any bytes that the job check accepts
+-- what is written, by the verdict
+abbrev bytesFor : Verdict → List ℕ → List ℕ
+bytesFor (planned worth) laid = laid
+bytesFor (noFit l) laid = []
+bytesFor (refused reason row) laid = []
+
+written-is : (v : Verdict) (laid area : List ℕ) → written v laid area ≡ bytesFor v laid ++ drop (length (bytesFor v laid)) area
+written-is (planned worth) laid area = refl
+written-is (noFit l) laid area = refl
+written-is (refused reason row) laid area = refl
+
+module _ (s : List ℕ) where
+  abbrev j : Job
+  j = jobOf s
+
+  abbrev g : ℕ → ℕ
+  g = groupAt (families j)
+
+  abbrev r : ℕ → Run
+  r = runAt (families j)
+
+  -- what the model gives where the area is long enough, whatever stands in it
+  abbrev modelVerdict : Verdict
+  modelVerdict = outcomeBy none (emptyBy j g r) (worthBy j g r)
+
+  abbrev modelBytes : List ℕ
+  modelBytes = bytesFor modelVerdict (laidOutBy j g r)
+
+  module _ (ok : checked s ≡ accepted) (area : List ℕ) where
+    by-model : sheetLength j ≤ length area → verdictBy s area ≡ modelVerdict
+    unfolding verdictBy
+    by-model h = ap (λ o. outcomeBy o (emptyBy j g r) (worthBy j g r)) (fault-none s (shortFor? j area) (accepted-none s ok) (λ l. omega arith))
+
+    long-enough : sheetLength j ≤ length area → (verdict s area ≡ modelVerdict) × (sheet s area ≡ modelBytes ++ drop (length modelBytes) area)
+    unfolding sheetBy
+    long-enough h = (
+      sym (verdict-by s area) ∙ by-model h,
+      sym (sheet-by s area) ∙ ap (λ v. written v (laidOutBy j g r) area) (by-model h) ∙ written-is modelVerdict (laidOutBy j g r) area,
+    )
+
+    too-short : length area < sheetLength j → (verdict s area ≡ refused 8 0) × (sheet s area ≡ area)
+    too-short h = (e, if-refused s area e)
+      where
+        e : verdict s area ≡ refused 8 0
+        e = verdict-is s area ∙ ap (λ o. outcome j o (firstWithout j)) (fault-short s (shortFor? j area) (accepted-none s ok) h)
+
+-- ---- of the ten
+abbrev given : Worked → (Answer × ℕ) × (Verdict × List ℕ)
+given v = let s = v .job in ((checked s, sheetLength (jobOf s)), (modelVerdict s, modelBytes s))
+
+abbrev expected : Worked → (Answer × ℕ) × (Verdict × List ℕ)
+expected v = ((accepted, v .room), (v .verdict, v .sheet))
+
+marked-computed : map given markedJobs ≡ map expected markedJobs
+unfolding checked sheetBy
+marked-computed = refl
+
+same : (v : Worked) → v ∈ markedJobs → given v ≡ expected v
+same v m = same-values given expected marked-computed m
+
+accepts : (v : Worked) → v ∈ markedJobs → checked (v .job) ≡ accepted
+accepts v m = ap (λ p. p .0 .0) (same v m)
+
+-- the bytes that its sheet takes: 120 for M
+pub marked-room : (v : Worked) → v ∈ markedJobs → sheetLength (jobOf (v .job)) ≡ v .room
+marked-room v m = ap (λ p. p .0 .1) (same v m)
+
+-- **the ten jobs**, in any area that is long enough
+pub marked-jobs : (v : Worked) → v ∈ markedJobs → (area : List ℕ) → sheetLength (jobOf (v .job)) ≤ length area →
+    (verdict (v .job) area ≡ v .verdict) × (sheet (v .job) area ≡ after v area)
+marked-jobs v m area h =
+    let (e, f) = long-enough (v .job) (accepts v m) area h in
+    (e ∙ ap (λ p. p .1 .0) (same v m), f ∙ ap (λ p. p .1 .1 ++ drop (length (p .1 .1)) area) (same v m))
+
+-- and in any that is shorter, also where there is no fit
+pub marked-short : (v : Worked) → v ∈ markedJobs → (area : List ℕ) → length area < sheetLength (jobOf (v .job)) →
+    (verdict (v .job) area ≡ refused 8 0) × (sheet (v .job) area ≡ area)
+marked-short v m area h = too-short (v .job) (accepts v m) area h
+
+-- five bytes more than the sheet takes, 100, 101, 102 and so on: the last five are as lent
+abbrev lent : ℕ → List ℕ
+lent n = table (λ i. 100 + i) n
+
+kept-computed : map (λ v. drop (v .room) (after v (lent (v .room + 5)))) markedJobs ≡ map (λ v. table (λ i. 100 + v .room + i) 5) markedJobs
+unfolding table
+kept-computed = refl
+
+pub marked-kept : (v : Worked) → v ∈ markedJobs → drop (v .room) (sheet (v .job) (lent (v .room + 5))) ≡ table (λ i. 100 + v .room + i) 5
+marked-kept v m =
+    let h : sheetLength (jobOf (v .job)) ≤ length (lent (v .room + 5)) = omega (arith, marked-room v m, length-table (λ i. 100 + i) (v .room + 5)) in
+    ap (drop (v .room)) (marked-jobs v m (lent (v .room + 5)) h .1)
+    ∙ same-values (λ v. drop (v .room) (after v (lent (v .room + 5)))) (λ v. table (λ i. 100 + v .room + i) 5) kept-computed m
