@@ -3,7 +3,7 @@
 use mathlib.Core.Path.{_≡_, refl, sym, _∙_, ap, ap₂}
 use mathlib.Core.Logic.{_↔_, _⊎_, inl, inr, ⊎-elim}
 use mathlib.Core.Bool.{Bool, true, false, cond, _||_, false≢true, and-eq-true-iff}
-use mathlib.Core.List.{List, [], _∷_}
+use mathlib.Core.List.{List, [], _∷_, _++_}
 use Prim.Native.Nat.{ℕ, zero, suc, _≤_, _<_}
 use native.Mathlib.Omega.{arith}
 use lib.Dec.{ltb}
@@ -63,6 +63,21 @@ module _ {A : Type 0} (p : A → Bool) where
   unfolding keep
   keep-none [] f = refl
   keep-none (x ∷ xs) f = rw (f x (here refl)) (keep-none xs (λ z h. f z (there h)))
+
+  pub keep-all : (xs : List A) → ((z : A) → z ∈ xs → p z ≡ true) → keep p xs ≡ xs
+  unfolding keep
+  keep-all [] f = refl
+  keep-all (x ∷ xs) f = rw (f x (here refl)) (ap (λ r. x ∷ r) (keep-all xs (λ z h. f z (there h))))
+
+  -- of two lists, one behind the other
+  pub keep-both : (xs ys : List A) → keep p (xs ++ ys) ≡ keep p xs ++ keep p ys
+  unfolding keep
+  keep-both [] ys = refl
+  keep-both (x ∷ xs) ys = go (p x) (keep-both xs ys)
+    where
+      go : (b : Bool) → keep p (xs ++ ys) ≡ keep p xs ++ keep p ys → cond b (x ∷ keep p (xs ++ ys)) (keep p (xs ++ ys)) ≡ cond b (x ∷ keep p xs) (keep p xs) ++ keep p ys
+      go true e = ap (λ r. x ∷ r) e
+      go false e = e
 
   -- ---- every
   every-out : {xs : List A} {z : A} → every p xs ≡ true → z ∈ xs → p z ≡ true

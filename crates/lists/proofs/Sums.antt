@@ -1,8 +1,9 @@
 -- Laws of sums, and the same sum taken label by label.
-use mathlib.Core.Path.{_≡_, refl, sym, _∙_, ap₂}
+use mathlib.Core.Path.{_≡_, refl, sym, _∙_, ap, ap₂}
 use mathlib.Core.Logic.{_≢_}
 use mathlib.Core.Bool.{Bool, true, false}
-use Prim.Native.Nat.{ℕ, zero, suc, _*_, _<_}
+use Prim.Native.Nat.{ℕ, zero, suc, _+_, _*_, _<_}
+use native.Mathlib.Numerals.{add-one}
 use native.Mathlib.Decide.{ℕ-discrete}
 use lib.Dec.{T, eqb, eqb→eq, eqb-refl}
 use Rattle.ints.specs.Within.{Within}
@@ -14,6 +15,11 @@ pub sum-ext : (n : ℕ) (f h : ℕ → ℤ) → ((i : ℕ) → i < n → f i ≡
 unfolding sum
 sum-ext zero f h e = refl
 sum-ext (suc n) f h e = ap₂ _+ℤ_ (sum-ext n f h (λ i k. e i (omega arith))) (e n (omega arith))
+
+-- one number more
+pub sum-next : (n : ℕ) (f : ℕ → ℤ) → sum (n + 1) f ≡ sum n f +ℤ f n
+unfolding sum
+sum-next n f = ap (λ m. sum m f) (add-one n)
 
 pub sum-add : (n : ℕ) (f h : ℕ → ℤ) → sum n (λ i. f i +ℤ h i) ≡ sum n f +ℤ sum n h
 unfolding sum

@@ -2,7 +2,8 @@
 use mathlib.Core.Path.{_≡_, refl, _∙_, ap}
 use mathlib.Core.Logic.{_↔_}
 use Prim.Native.Nat.{ℕ, zero, suc, _+_, _-_, _≤_, _<_}
-use mathlib.Core.List.{[], _∷_}
+use mathlib.Core.List.{[], _∷_, _++_}
+use native.Mathlib.Nat.{zero-add}
 use native.Mathlib.Numerals.{add-one}
 use native.Mathlib.Omega.{arith}
 use lib.ListN.{length, getD}
@@ -43,6 +44,16 @@ module _ {A : Type 0} (f : ℕ → A) where
   from-at i zero k d h = absurd (omega arith)
   from-at i (suc n) zero d h = let e : i ≡ i + 0 = omega arith in ap f e
   from-at i (suc n) (suc k) d h = let e : suc i + k ≡ i + suc k = omega arith in from-at (suc i) n k d (omega arith) ∙ ap f e
+
+  from-last : (i n : ℕ) → tableFrom f i (suc n) ≡ tableFrom f i n ++ f (i + n) ∷ []
+  unfolding tableFrom
+  from-last i zero = let e : i ≡ i + 0 = omega arith in ap (λ k. f k ∷ []) e
+  from-last i (suc n) = let e : suc i + n ≡ i + suc n = omega arith in ap (λ r. f i ∷ r) (from-last (suc i) n ∙ ap (λ k. tableFrom f (suc i) n ++ f k ∷ []) e)
+
+  -- one member more
+  pub table-next : (n : ℕ) → table f (n + 1) ≡ table f n ++ f n ∷ []
+  unfolding table
+  table-next n = ap (tableFrom f 0) (add-one n) ∙ from-last 0 n ∙ ap (λ k. tableFrom f 0 n ++ f k ∷ []) (zero-add n)
 
   pub in-table : (n : ℕ) (z : A) → z ∈ table f n ↔ ((k : ℕ) × (k < n) × (z ≡ f k))
   unfolding table
