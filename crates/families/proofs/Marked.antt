@@ -15,11 +15,10 @@ use Rattle.runs.specs.declared.Run.{Run}
 use Rattle.jobs.specs.Job.{Job, jobOf}
 use Rattle.jobs.specs.Component.{sheetLength}
 use Rattle.jobs.specs.Faults.{Answer, accepted, checked}
-use Rattle.jobs.specs.Verdict.{Verdict, planned, noFit, refused, firstWithout, outcome, shortFor?, verdict}
+use Rattle.jobs.specs.Verdict.{Verdict, planned, noFit, refused, shortFor?, verdict}
 use Rattle.jobs.specs.Sheet.{sheet}
-use Rattle.jobs.proofs.Faults.{accepted-none, fault-short, fault-none}
-use Rattle.jobs.proofs.Fields.{if-refused}
-use Rattle.jobs.proofs.Promises.{verdict-is}
+use Rattle.jobs.proofs.Faults.{accepted-none, fault-none}
+use Rattle.jobs.proofs.Outcomes.{too-short}
 use Rattle.families.specs.Model.{groupAt, runAt, families}
 use Rattle.families.specs.Plan.{emptyBy, worthBy, laidOutBy, outcomeBy, verdictBy, written, sheetBy}
 use Rattle.families.specs.Vectors.{Worked, after, markedJobs}
@@ -66,12 +65,6 @@ module _ (s : List ℕ) where
       sym (sheet-by s area) ∙ ap (λ v. written v (laidOutBy j g r) area) (by-model h) ∙ written-is modelVerdict (laidOutBy j g r) area,
     )
 
-    too-short : length area < sheetLength j → (verdict s area ≡ refused 8 0) × (sheet s area ≡ area)
-    too-short h = (e, if-refused s area e)
-      where
-        e : verdict s area ≡ refused 8 0
-        e = verdict-is s area ∙ ap (λ o. outcome j o (firstWithout j)) (fault-short s (shortFor? j area) (accepted-none s ok) h)
-
 -- ---- of the ten
 abbrev given : Worked → (Answer × ℕ) × (Verdict × List ℕ)
 given v = let s = v .job in ((checked s, sheetLength (jobOf s)), (modelVerdict s, modelBytes s))
@@ -103,7 +96,7 @@ marked-jobs v m area h =
 -- and in any that is shorter, also where there is no fit
 pub marked-short : (v : Worked) → v ∈ markedJobs → (area : List ℕ) → length area < sheetLength (jobOf (v .job)) →
     (verdict (v .job) area ≡ refused 8 0) × (sheet (v .job) area ≡ area)
-marked-short v m area h = too-short (v .job) (accepts v m) area h
+marked-short v m area h = too-short (v .job) area (accepts v m) h
 
 -- five bytes more than the sheet takes, 100, 101, 102 and so on: the last five are as lent
 abbrev lent : ℕ → List ℕ

@@ -27,3 +27,5 @@ pub mod Writing
 pub mod Fields
 -- the definitions keep the demands, as far as that needs no families
 pub mod Promises
+-- verdict and sheet, case by case
+pub mod Outcomes
