@@ -23,16 +23,16 @@ size (suc zero) = one refl
 size (suc (suc n)) = more (omega arith)
 
 module _ {r : Run} (f : FamilyRun r) where
-  at : (k : ℕ) → k < r .many → Within bound (nth r k)
-  at k h = f .inside (nth r k) record { place = k; below = h; is = refl }
+  pub member-within : (k : ℕ) → k < r .many → Within bound (nth r k)
+  member-within k h = f .inside (nth r k) record { place = k; below = h; is = refl }
 
   pub first-within : Within bound (r .first)
   first-within = go (size (r .many))
     where
       go : Size (r .many) → Within bound (r .first)
       go (none e) = lin (r .first ∷ []) (f .empty e) (search facts depth 20) (omega arith)
-      go (one e) = lin (r .first ∷ r .step ∷ []) (at 0 (omega arith)) (search facts depth 20) (omega arith)
-      go (more h) = lin (r .first ∷ r .step ∷ []) (at 0 (omega arith)) (search facts depth 20) (omega arith)
+      go (one e) = lin (r .first ∷ r .step ∷ []) (member-within 0 (omega arith)) (search facts depth 20) (omega arith)
+      go (more h) = lin (r .first ∷ r .step ∷ []) (member-within 0 (omega arith)) (search facts depth 20) (omega arith)
 
   pub step-within : Within 2000000000 (r .step)
   step-within = go (size (r .many))
@@ -40,11 +40,11 @@ module _ {r : Run} (f : FamilyRun r) where
       go : Size (r .many) → Within 2000000000 (r .step)
       go (none e) = lin (r .step ∷ []) (f .moves .rests (omega arith)) (search facts depth 20) (omega arith)
       go (one e) = lin (r .step ∷ []) (f .moves .rests (omega arith)) (search facts depth 20) (omega arith)
-      go (more h) = lin (r .first ∷ r .step ∷ []) (at 0 (omega arith) & at 1 (omega arith)) (search facts depth 20) (omega arith)
+      go (more h) = lin (r .first ∷ r .step ∷ []) (member-within 0 (omega arith) & member-within 1 (omega arith)) (search facts depth 20) (omega arith)
 
   -- the last number; of none, 0
   last-of : (n : ℕ) → r .many ≡ suc n → Within bound (r .first +ℤ r .step *ℤ (pos (r .many) -ℤ pos 1))
-  last-of n e = lin (r .first ∷ r .step ∷ pos (r .many) ∷ pos n ∷ []) (at n (omega arith) & ap-step) (search facts depth 20) (omega arith)
+  last-of n e = lin (r .first ∷ r .step ∷ pos (r .many) ∷ pos n ∷ []) (member-within n (omega arith) & ap-step) (search facts depth 20) (omega arith)
     where
       ap-step : r .step *ℤ pos n ≡ r .step *ℤ (pos (r .many) -ℤ pos 1)
       ap-step = ap (λ t. r .step *ℤ t) (sym (one-less (r .many) n e))

@@ -20,3 +20,7 @@ pub mod Rebounding
 pub mod Rows
 -- the arrays follow the model, for bytes and bounds
 pub mod Following
+-- a job that the check accepts
+pub mod Accepting
+-- bytes written over others
+pub mod Overwriting

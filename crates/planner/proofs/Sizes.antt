@@ -1,6 +1,7 @@
 -- 64 bits hold all that is made of the numbers of a family.
 use mathlib.Core.Path.{_≡_}
 use Prim.Native.Nat.{ℕ, _<_}
+use lib.Signed.{mag}
 use mir.Syntax.{w64}
 use mir.Val.{SFits}
 use mir.Facts.{toZ-ofZ}
@@ -15,6 +16,10 @@ use Rattle.planner.specs.Widths.{Turnable, Crossable}
 -- a 64-bit number
 pub fits : {x : ℤ} (n : ℕ) → n < 9223372036854775808 → Within n x → SFits w64 x
 fits {x} n h w = lin (x ∷ pos n ∷ []) (w & h) (search signed depth 20) (omega arith)
+
+-- an element of an array, as a local holds it
+pub held-element : (x : ℤ) → mag x < 9223372036854775808 → held x ≡ x
+held-element x h = toZ-ofZ {w = w64} {z = x} record { sfits = h }
 
 -- a run's first number and step, as 64-bit locals hold them
 module _ {r : Run} (w : Crossable r) where

@@ -12,3 +12,5 @@ pub mod Groups
 pub mod Steps
 -- how large the numbers are
 pub mod Widths
+-- bytes that are written over
+pub mod Area

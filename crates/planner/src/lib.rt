@@ -24,6 +24,8 @@ mod groups;
 mod range;
 // the equations, one after the other
 mod equations;
+// numbers written into bytes
+mod bytes;
 
 /// A variable's bounds. They come to the planner apart from the job's bytes, so that the same job can be planned with others.
 pub struct Bounds {

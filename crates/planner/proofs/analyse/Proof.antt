@@ -5,10 +5,9 @@ use Prim.Native.Nat.{ℕ}
 use borrow.Author.Needs.{needs}
 use Rattle.reasons.specs.declared.Reason.{Reason}
 use Rattle.jobs.specs.declared.Checked.{Checked}
-use Rattle.jobs.specs.declared.Checked.the-variants.{Accepted, Refused}
-use Rattle.jobs.specs.Faults.{Answer, accepted, refused, answerOf, noArea?, checked, ChecksExactly}
-use Rattle.jobs.proofs.Faults.{sound-iff}
-use Rattle.jobs.proofs.Lawful.{Lawful, lawful}
+use Rattle.jobs.specs.declared.Checked.the-variants.{Refused}
+use Rattle.jobs.specs.Faults.{Answer, accepted, refused, answerOf, checked}
+use Rattle.planner.proofs.Accepting.{accepts}
 use Rattle.planner.specs.Analysis.{Analysis, Analysed}
 use Rattle.planner.proofs.analyse.Statement.{statement}
 use Rattle.planner.proofs.analyse.Tie as tie
@@ -19,9 +18,6 @@ IsRefusal accepted = ⊥
 IsRefusal (refused reason row) = Unit {0}
 
 module _ (s : List ℕ) (c : Checked) (e : answerOf c ≡ checked s) where
-  accepts : ChecksExactly s (answerOf c) → c ≡ Accepted → Lawful s
-  accepts x a = lawful noArea? s (sound-iff s noArea? .1 (x .acceptance .0 (ap answerOf a)))
-
   refuses : (r : Reason) → c ≡ Refused r → (x : Analysis) → x .variables ≡ 0 → x .groups ≡ 0 → Analysed s x
   refuses r a x v g = record { variables = λ h. absurd (no h); groups = λ h. absurd (no h); families = λ h. absurd (no h); nothing = λ h. (v, g) }
     where
@@ -44,7 +40,7 @@ accepted-requires : tie.Need-accepted-requires
 accepted-requires c κs =
     let k = c .before .before in
     let s = k .before .before .args .job .now in
-    (accepts s (k .check .result) (k .check .ensures .0) (k .check .ensures .1) (c .enum-told .given .1), sym (k .check .ensures .0) ∙ ap answerOf (c .enum-told .given .1))
+    (accepts s (k .check .result) (k .check .ensures .1) (c .enum-told .given .1), sym (k .check .ensures .0) ∙ ap answerOf (c .enum-told .given .1))
 
 returns : tie.Need-returns
 returns c =
