@@ -24,3 +24,9 @@ pub mod Following
 pub mod Accepting
 -- bytes written over others
 pub mod Overwriting
+-- the lowest variables of the groups, one after the other
+pub mod Leads
+-- the number that is chosen for a variable
+pub mod Choosing
+-- weights times numbers, added up
+pub mod Adding

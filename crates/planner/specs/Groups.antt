@@ -1,4 +1,5 @@
 -- Groups in the program: a list of labels, the lowest variable of each variable's group.
+use mathlib.Core.Path.{_≡_}
 use mathlib.Core.List.{List}
 use Prim.Native.Nat.{ℕ, _≤_, _<_}
 use lib.ListN.{getD}
@@ -13,6 +14,11 @@ Apart = Holds 0 (λ i. i) 256
 -- a label is the lowest of its group, and so not above the variable
 pub record Labelled (groups : List ℕ) (n : ℕ) : Type 0 where
   pub at : (i : ℕ) → i < n → getD groups i 0 ≤ i
+
+-- and it labels itself
+pub record Lowest (groups : List ℕ) (n : ℕ) : Type 0 where
+  pub low : (i : ℕ) → i < n → getD groups i 0 ≤ i
+  pub self : (i : ℕ) → i < n → getD groups (getD groups i 0) 0 ≡ getD groups i 0
 
 -- the groups l and r have become one
 abbrev pub Merges : List ℕ → ℕ → ℕ → ℕ → List ℕ → Type 0

@@ -14,3 +14,5 @@ pub mod Steps
 pub mod Widths
 -- bytes that are written over
 pub mod Area
+-- the choice, and the rows of the sheet
+pub mod Choices

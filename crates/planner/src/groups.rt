@@ -2,14 +2,17 @@
 
 ghost use mathlib.Core.Path.{_≡_};
 ghost use mathlib.Core.Bool.{not};
-ghost use Prim.Native.Nat.{ℕ, _≤_, _<_, min};
+ghost use Prim.Native.Nat.{_≤_, _<_, min};
 ghost use lib.Dec.{eqb};
 ghost use lib.ListN.{length, getD};
 ghost use Rattle.lists.specs.Keep.{keep};
 ghost use Rattle.lists.specs.Table.{upTo};
 ghost use Rattle.jobs.specs.Job.{jobOf, variableCount, equationCount};
 ghost use Rattle.jobs.proofs.Lawful.{Lawful};
-ghost use Rattle.planner.specs.Groups.{Apart, Labelled, Merges, Labels};
+ghost use Rattle.planner.specs.Groups.{Apart, Labelled, Lowest, Merges, Labels};
+ghost use Rattle.planner.specs.Arrays.{Holds};
+ghost use Rattle.planner.specs.Choices.{groupIn};
+ghost use Rattle.families.specs.Plan.{componentBy};
 use jobs::Equation;
 
 // Does an equation between variables of these groups join two sets that earlier rows left separate?
@@ -111,4 +114,26 @@ pub(crate) fn count(groups: [u16; 256], n: usize) -> usize
         v += 1;
     }
     g
+}
+
+// The number of the group of each of n variables: groups are numbered in the order of their lowest variables.
+pub(crate) fn numbers(groups: [u16; 256], n: usize) -> [u16; 256]
+    requires { ⌜ n ≤ 256 ⌝ }
+    requires { ⌜ Lowest groups n ⌝ }
+    ensures { λ r. ⌜ Holds 0 (componentBy (groupIn groups) n) n r ⌝ }
+{
+    let mut numbers: [u16; 256] = [0; 256];
+    let mut next: u16 = 0;
+    let mut i: usize = 0;
+    while i < n {
+        let l = groups[i] as usize;
+        if l == i {
+            numbers[i] = next;
+            next += 1;
+        } else {
+            numbers[i] = numbers[l];
+        }
+        i += 1;
+    }
+    numbers
 }

@@ -24,6 +24,8 @@ mod groups;
 mod range;
 // the equations, one after the other
 mod equations;
+// the choice in each group
+mod choose;
 // numbers written into bytes
 mod bytes;
 
