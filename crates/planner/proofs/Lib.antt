@@ -26,6 +26,8 @@ pub mod Accepting
 pub mod Overwriting
 -- the lowest variables of the groups, one after the other
 pub mod Leads
+-- the rows of a sheet, one behind the other
+pub mod Laying
 -- the number that is chosen for a variable
 pub mod Choosing
 -- weights times numbers, added up

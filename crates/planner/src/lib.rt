@@ -28,6 +28,8 @@ mod equations;
 mod choose;
 // numbers written into bytes
 mod bytes;
+// the sheet
+mod sheet;
 
 /// A variable's bounds. They come to the planner apart from the job's bytes, so that the same job can be planned with others.
 pub struct Bounds {
