@@ -32,3 +32,5 @@ pub mod Laying
 pub mod Choosing
 -- weights times numbers, added up
 pub mod Adding
+-- what is made of the families is what the definitions say
+pub mod Concluding

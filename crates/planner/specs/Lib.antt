@@ -1,5 +1,7 @@
 -- What the contracts cite. Read in this order.
 
+-- what the planner's answer says
+pub mod Outcome
 -- what the analysis of a job says
 pub mod Analysis
 -- what an array holds

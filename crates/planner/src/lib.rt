@@ -1,12 +1,22 @@
-//! The planner's families: which variables hang together, and for each group the exact family of its solutions.
+//! The planner: it reads a job and writes the sheet of its best solution, or says why there is none.
 //!
 //! Read `specs/Lib.antt`, then this file, then the modules in the order in which they are listed.
 
 ghost use mathlib.Core.Path.{_≡_};
+ghost use Prim.Native.Nat.{_≤_};
+ghost use lib.ListN.{length};
 ghost use Rattle.jobs.specs.declared.Checked.the-variants.{Accepted, Refused};
 ghost use Rattle.jobs.specs.Faults.{answerOf, accepted, checked};
+ghost use Rattle.jobs.specs.Job.{jobOf, variableCount};
+ghost use Rattle.jobs.specs.Component.{componentCount, sheetLength};
+ghost use Rattle.jobs.specs.Verdict.{planned, verdict};
+ghost use Rattle.jobs.specs.Sheet.{sheet};
+ghost use Rattle.jobs.specs.Demands.{TurnsAway, GivesFits, CannotBeBettered};
 ghost use Rattle.jobs.proofs.Lawful.{Lawful};
-ghost use Rattle.planner.specs.Analysis.{Analysed};
+ghost use Rattle.planner.specs.Analysis.{Families, Analysed};
+ghost use Rattle.planner.specs.Choices.{NoneEmpty};
+ghost use Rattle.planner.specs.Outcome.{verdictOf, worthOfBest, sheetOfBest};
+use choose::Found;
 use jobs::Checked;
 use jobs::header;
 use reasons::Reason;
@@ -30,6 +40,74 @@ mod choose;
 mod bytes;
 // the sheet
 mod sheet;
+
+/// The planner's answer.
+pub enum Outcome {
+    /// The sheet stands in the answer area, and its numbers are worth so much.
+    Planned(i64),
+    /// No numbers fit; this is the lowest variable of the first group that has none.
+    NoFit(u16),
+    Refused(Reason),
+}
+
+/// Plans a job: any bytes, and any answer area. The verdict and the area afterwards are those of the definitions, and they keep
+/// the three demands: of the service port, of the installer and of the buyer.
+pub fn plan(job: &[u8], area: &mut [u8]) -> Outcome
+    ensures outcome { λ r. ⌜ verdictOf r ≡ verdict (now (job .entry)) (now (area .entry)) ⌝ }
+    ensures sheet { λ _. ⌜ now (area .exit) ≡ sheet (now (job .entry)) (now (area .entry)) ⌝ }
+    ensures refusals { λ r. ⌜ TurnsAway (now (job .entry)) (now (area .entry)) (verdictOf r) (now (area .exit)) ⌝ }
+    ensures fits { λ r. ⌜ GivesFits (now (job .entry)) (now (area .entry)) (verdictOf r) (now (area .exit)) ⌝ }
+    ensures best { λ r. ⌜ CannotBeBettered (now (job .entry)) (now (area .entry)) (verdictOf r) (now (area .exit)) ⌝ }
+{
+    let checked = jobs::check(job);
+    match checked {
+        Checked::Refused(reason) => Outcome::Refused(reason),
+        Checked::Accepted => fitted(job, area),
+    }
+}
+
+// The plan of a job that the check accepts. Whether the area is long enough is asked before any fit is sought.
+fn fitted(job: &[u8], area: &mut [u8]) -> Outcome
+    requires { ⌜ Lawful (now job) ⌝ }
+    requires { ⌜ checked (now job) ≡ accepted ⌝ }
+    ensures { λ r. ⌜ verdictOf r ≡ verdict (now (job .entry)) (now (area .entry)) ⌝ }
+    ensures { λ _. ⌜ now (area .exit) ≡ sheet (now (job .entry)) (now (area .entry)) ⌝ }
+{
+    let n = header::variable_count(job);
+    let m = header::equation_count(job);
+    let lowest = groups::lowest(job, n, m);
+    let g = groups::count(lowest, n);
+    if area.len() < sheet::length(n, g) {
+        return Outcome::Refused(Reason::ShortArea);
+    }
+    let bounds = range::bounds_of(job, n);
+    let state = equations::families(job, bounds, n, m);
+    let runs = state.runs;
+    let empty = choose::first_empty(runs, n);
+    match empty {
+        Found::At(l) => Outcome::NoFit(l),
+        Found::Nothing => written(job, area, state, n, g),
+    }
+}
+
+// The sheet of the best solution, where every group has one; state has the families of the job's n variables in g groups.
+fn written(job: &[u8], area: &mut [u8], state: State, n: usize, g: usize) -> Outcome
+    requires { ⌜ Lawful (now job) ⌝ }
+    requires { ⌜ n ≡ variableCount (now job) ⌝ }
+    requires { ⌜ g ≡ componentCount (jobOf (now job)) ⌝ }
+    requires { ⌜ Families (jobOf (now job)) state ⌝ }
+    requires { ⌜ NoneEmpty (state .runs) n ⌝ }
+    requires { ⌜ sheetLength (jobOf (now job)) ≤ length (now area) ⌝ }
+    ensures { λ r. ⌜ verdictOf r ≡ planned (worthOfBest (jobOf (now (job .entry)))) ⌝ }
+    ensures { λ _. ⌜ now (area .exit) ≡ sheetOfBest (jobOf (now (job .entry))) (now (area .entry)) ⌝ }
+{
+    let groups = state.groups;
+    let runs = state.runs;
+    let gains = choose::gains(job, groups, runs, n);
+    let worth = choose::worth(job, groups, runs, gains, n);
+    sheet::write(area, groups, runs, gains, n, g, worth);
+    Outcome::Planned(worth)
+}
 
 /// A variable's bounds. They come to the planner apart from the job's bytes, so that the same job can be planned with others.
 pub struct Bounds {
