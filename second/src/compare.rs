@@ -1,0 +1,186 @@
+//! Runs another planner on many pseudo-random jobs, and compares what it prints with what this one prints.
+
+use std::fs;
+use std::io::{self, Read, Write};
+use std::path::Path;
+use std::process::{Child, Command, Stdio};
+use std::sync::atomic::{AtomicU64, Ordering};
+use std::sync::Mutex;
+use std::thread;
+
+use crate::damaged;
+use crate::job;
+use crate::made::{self, Size};
+use crate::plan::{plan, Outcome, Sheet};
+use crate::print::print;
+use crate::random::Random;
+
+/// How many run at a time, and how many differences are shown.
+const WORKERS: usize = 2;
+const SHOWN: u64 = 5;
+/// The bytes and both prints of a difference are written here.
+const FOLDER: &str = concat!(env!("CARGO_MANIFEST_DIR"), "/target/differences");
+
+/// The bytes of a job, settled by the seed and its number.
+pub fn job_bytes(seed: u64, number: u64) -> Vec<u8> {
+    let random = &mut Random::new(seed, number);
+    match random.index(100) {
+        0..=24 => job::write(&made::hidden(random, Size::Small)),
+        25..=32 => job::write(&made::wild(random, 5)),
+        33..=34 => job::write(&made::wild(random, 40)),
+        35..=59 => job::write(&made::hidden(random, Size::Middle)),
+        60..=74 => job::write(&made::hidden(random, Size::Large)),
+        75..=89 => damaged::damaged(random),
+        90..=94 => damaged::at_limits(random),
+        _ => damaged::of_any_length(random),
+    }
+}
+
+/// What came of the jobs.
+#[derive(Default)]
+struct Tally {
+    planned: u64,
+    no_fit: u64,
+    /// by reason, from 1
+    refused: [u64; 8],
+    /// planned, with two or more fits in a group of two or more counts; and in one of a hundred or more
+    chosen: u64,
+    chosen_large: u64,
+    different: u64,
+}
+
+impl Tally {
+    fn add(&mut self, outcome: &Outcome) {
+        match outcome {
+            Outcome::Planned(sheet) => {
+                self.planned += 1;
+                self.chosen += u64::from(has_choice(sheet, 2));
+                self.chosen_large += u64::from(has_choice(sheet, 100));
+            }
+            Outcome::NoFit(_) => self.no_fit += 1,
+            Outcome::Refused(refusal) => self.refused[usize::from(refusal.reason)] += 1,
+        }
+    }
+
+    /// Whether every kind of job is there often enough for the comparison to mean something.
+    fn is_varied(&self, jobs: u64) -> bool {
+        let share = |part: u64, of: u64| part * of >= jobs;
+        let reasons = self.refused[1..].iter().all(|&times| share(times, 200));
+        share(self.planned, 3) && share(self.no_fit, 10) && share(self.chosen, 4) && share(self.chosen_large, 40) && reasons
+    }
+}
+
+/// Whether a group of so many counts has two or more fits.
+fn has_choice(sheet: &Sheet, counts: usize) -> bool {
+    let size = |group| sheet.counts.iter().filter(|row| row.group == group).count();
+    (0..sheet.groups.len()).any(|group| sheet.groups[group].fits > 1 && size(group) >= counts)
+}
+
+/// Compare on so many jobs; whether all is well. The last line says what was done.
+pub fn compare(program: &str, seed: u64, jobs: u64) -> io::Result<bool> {
+    let (next, tally) = (AtomicU64::new(0), Mutex::new(Tally::default()));
+    thread::scope(|scope| {
+        let work = || -> io::Result<()> {
+            loop {
+                let number = next.fetch_add(1, Ordering::Relaxed);
+                if number >= jobs {
+                    return Ok(());
+                }
+                compare_one(program, seed, number, &tally)?;
+            }
+        };
+        let workers: Vec<_> = (0..WORKERS).map(|_| scope.spawn(work)).collect();
+        workers.into_iter().try_for_each(|worker| worker.join().expect("a worker does not panic"))
+    })?;
+    let tally = tally.into_inner().expect("no worker has panicked");
+    Ok(report(&tally, seed, jobs))
+}
+
+fn compare_one(program: &str, seed: u64, number: u64, tally: &Mutex<Tally>) -> io::Result<()> {
+    let bytes = job_bytes(seed, number);
+    let outcome = plan(&bytes);
+    let wanted = print(&outcome);
+    // every eighth job comes in pieces, as a slow sender's would
+    let piece = match number % 8 {
+        0 => bytes.len() / 5 + 1,
+        _ => bytes.len() + 1,
+    };
+    let printed = run(program, &bytes, piece)?;
+    let mut tally = tally.lock().expect("no worker has panicked");
+    tally.add(&outcome);
+    if printed != wanted {
+        tally.different += 1;
+        if tally.different <= SHOWN {
+            show(number, &bytes, &printed, &wanted)?;
+        }
+    }
+    Ok(())
+}
+
+/// What the program prints for these bytes on its standard input, with a line at the end if it did not end with status 0.
+fn run(program: &str, bytes: &[u8], piece: usize) -> io::Result<String> {
+    let mut child = Command::new(program).stdin(Stdio::piped()).stdout(Stdio::piped()).spawn()?;
+    let mut printed = Vec::new();
+    feed_and_read(&mut child, bytes, piece, &mut printed)?;
+    let status = child.wait()?;
+    let mut printed = String::from_utf8_lossy(&printed).into_owned();
+    if !status.success() {
+        printed += &format!("({status})\n");
+    }
+    Ok(printed)
+}
+
+/// Write and read at the same time, so that neither side waits for the other.
+fn feed_and_read(child: &mut Child, bytes: &[u8], piece: usize, printed: &mut Vec<u8>) -> io::Result<()> {
+    let mut input = child.stdin.take().expect("standard input is a pipe");
+    let output = child.stdout.as_mut().expect("standard output is a pipe");
+    thread::scope(|scope| {
+        scope.spawn(move || {
+            for part in bytes.chunks(piece) {
+                // a program that has read enough may close its end
+                if input.write_all(part).is_err() {
+                    break;
+                }
+                thread::yield_now();
+            }
+        });
+        output.read_to_end(printed).map(|_| ())
+    })
+}
+
+/// Print a difference from its first line on, and keep the bytes and both prints.
+fn show(number: u64, bytes: &[u8], printed: &str, wanted: &str) -> io::Result<()> {
+    fs::create_dir_all(FOLDER)?;
+    let file = Path::new(FOLDER).join(format!("{number}.job"));
+    fs::write(&file, bytes)?;
+    fs::write(file.with_extension("printed"), printed)?;
+    fs::write(file.with_extension("wanted"), wanted)?;
+    let at = printed.lines().zip(wanted.lines()).take_while(|(x, y)| x == y).count();
+    println!("second: job {number} differs at line {}; its bytes and both prints are {}", at + 1, file.display());
+    for (who, text) in [("the program", printed), ("second", wanted)] {
+        println!("  {who} prints:");
+        text.lines().skip(at).take(6).for_each(|line| println!("    {line}"));
+    }
+    Ok(())
+}
+
+/// Print what came of it; whether all is well.
+fn report(tally: &Tally, seed: u64, jobs: u64) -> bool {
+    let refused: u64 = tally.refused.iter().sum();
+    let varied = tally.is_varied(jobs);
+    println!("second: refused by reason, from 1: {:?}", &tally.refused[1..8]);
+    println!(
+        "second: planned with a choice in a group of 2 or more counts: {}; of 100 or more: {}",
+        tally.chosen, tally.chosen_large
+    );
+    if !varied {
+        println!("second: failed: some kind of job is too rare for the comparison to mean much");
+    }
+    let verdict = match tally.different {
+        0 => "all equal".to_string(),
+        different => format!("{different} DIFFERENT"),
+    };
+    let (planned, no_fit) = (tally.planned, tally.no_fit);
+    println!("second: seed {seed}, {jobs} jobs ({planned} planned, {no_fit} no fit, {refused} refused), {verdict}");
+    varied && tally.different == 0
+}
