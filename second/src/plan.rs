@@ -240,11 +240,9 @@ impl Range {
         ranges.try_fold(first, |sofar, range| sofar.meet(range?))
     }
 
+    /// Where the low is above the high, first is above last.
     fn of_count(job: &Job, point: &Point) -> Option<Range> {
         let count = &job.counts[point.count];
-        if count.low > count.high {
-            return None;
-        }
         let (low, high) = (&Big::from(count.low) - &point.start, &Big::from(count.high) - &point.start);
         let rises = point.step > Big::from(0);
         let (from, to) = if rises { (low, high) } else { (high, low) };
