@@ -1,9 +1,9 @@
--- Rising lists: two with the same members are equal, which is the one lemma that later crates rest on; and lists that rise by how
--- they are made.
-use mathlib.Core.Path.{_≡_, refl, sym, _∙_, ap₂}
-use mathlib.Core.Logic.{_↔_, ⊎-elim}
+-- Rising lists: two with the same members are equal, which is the one lemma that later crates rest on; lists that rise by how
+-- they are made; and lists without repetition, of which two with the same members are of one length.
+use mathlib.Core.Path.{_≡_, refl, sym, _∙_, ap, ap₂, subst}
+use mathlib.Core.Logic.{_↔_, _≢_, ⊎-elim}
 use mathlib.Core.List.{List, [], _∷_, _++_, map, flatMap, List·Memᴰ·not-nil}
-use Prim.Native.Nat.{ℕ, zero, suc, _<_}
+use Prim.Native.Nat.{ℕ, zero, suc, _≤_, _<_}
 use native.Mathlib.Omega.{arith}
 use lib.ListN.{length, getD}
 use Rattle.lists.specs.Members.{_∈_, here, there}
@@ -62,3 +62,34 @@ module _ {A B : Type 0} {R : A → A → Type 0} {S : B → B → Type 0} where
   rising-flatMap f each across (more {x} {xs} g r) =
       rising-append (each x) (rising-flatMap f each across r)
       (λ u v h k. let (y, l, m) = in-flatMap f xs v .0 k in across x y (g y l) u v h m)
+
+-- ---- lists without repetition: each member differs from every later one
+abbrev pub Distinct : {A : Type 0} → List A → Type 0
+Distinct = Rising _≢_
+
+pub rising-distinct : {A : Type 0} {R : A → A → Type 0} → ((x y : A) → R x y → R y x → ⊥) → {xs : List A} → Rising R xs → Distinct xs
+rising-distinct asym none = none
+rising-distinct {R} asym (more {x} f r) = more (λ y h e. let q : R x x = subst (R x) (sym e) (f y h) in asym x x q q) (rising-distinct asym r)
+
+module _ {A : Type 0} where
+  -- the list without one of its members
+  without : {x : A} {ys : List A} → x ∈ ys → (zs : List A) × (length ys ≡ suc (length zs)) × ((z : A) → z ∈ ys → z ≢ x → z ∈ zs)
+  without {x} (here {x = y} {xs = ys} e) = (ys, refl, others)
+    where
+      others : (z : A) → z ∈ y ∷ ys → z ≢ x → z ∈ ys
+      others z (here d) n = absurd (n (d ∙ sym e))
+      others z (there h) n = h
+  without {x} (there {x = y} {xs = ys} h) = let (zs, l, f) = without h in (y ∷ zs, ap suc l, others zs f)
+    where
+      others : (zs : List A) → ((z : A) → z ∈ ys → z ≢ x → z ∈ zs) → (z : A) → z ∈ y ∷ ys → z ≢ x → z ∈ y ∷ zs
+      others zs f z (here d) n = here d
+      others zs f z (there h) n = there (f z h n)
+
+  no-longer : {xs ys : List A} → Distinct xs → ((z : A) → z ∈ xs → z ∈ ys) → length xs ≤ length ys
+  no-longer none f = omega arith
+  no-longer (more {x} {xs} g r) f =
+      let (zs, l, k) = without (f x (here refl)) in
+      omega (arith, l, no-longer r (λ z h. k z (f z (there h)) (λ e. g z h (sym e))))
+
+  pub same-length : {xs ys : List A} → Distinct xs → Distinct ys → ((z : A) → z ∈ xs ↔ z ∈ ys) → length xs ≡ length ys
+  same-length r s m = let l = no-longer r (λ z. m z .0) in let k = no-longer s (λ z. m z .1) in omega arith
