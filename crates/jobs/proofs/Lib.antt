@@ -29,3 +29,5 @@ pub mod Fields
 pub mod Promises
 -- verdict and sheet, case by case
 pub mod Outcomes
+-- the sham planners of document 01, each refused by the demand that is named beside it
+pub mod Shams

@@ -36,17 +36,17 @@ abbrev untouched : List ℕ → ℕ → Verdict → Vector
 untouched job n v = record { job = job; area = lent n; verdict = v; after = lent n }
 
 -- ---- rows of a job whose fields fit one byte
-abbrev header : ℕ → ℕ → ℕ → ℕ → List ℕ
+abbrev pub header : ℕ → ℕ → ℕ → ℕ → List ℕ
 header n m rows whole = 70 ∷ 73 ∷ 84 ∷ 49 ∷ n ∷ 0 ∷ m ∷ 0 ∷ 24 ∷ 0 ∷ 0 ∷ 0 ∷ rows ∷ 0 ∷ 0 ∷ 0 ∷ whole ∷ 0 ∷ 0 ∷ 0 ∷ 0 ∷ 0 ∷ 0 ∷ 0 ∷ []
 
-abbrev count : ℕ → ℕ → ℕ → List ℕ
+abbrev pub count : ℕ → ℕ → ℕ → List ℕ
 count low high weight = low ∷ 0 ∷ 0 ∷ 0 ∷ high ∷ 0 ∷ 0 ∷ 0 ∷ weight ∷ 0 ∷ 0 ∷ 0 ∷ []
 
 abbrev equation : ℕ → ℕ → ℕ → ℕ → ℕ → List ℕ
 equation left right a b c = left ∷ 0 ∷ right ∷ 0 ∷ a ∷ 0 ∷ 0 ∷ 0 ∷ b ∷ 0 ∷ 0 ∷ 0 ∷ c ∷ 0 ∷ 0 ∷ 0 ∷ 0 ∷ 0 ∷ 0 ∷ 0 ∷ []
 
 -- left − right = c
-abbrev difference : ℕ → ℕ → ℕ → List ℕ
+abbrev pub difference : ℕ → ℕ → ℕ → List ℕ
 difference left right c = left ∷ 0 ∷ right ∷ 0 ∷ 1 ∷ 0 ∷ 0 ∷ 0 ∷ 255 ∷ 255 ∷ 255 ∷ 255 ∷ c ∷ 0 ∷ 0 ∷ 0 ∷ 0 ∷ 0 ∷ 0 ∷ 0 ∷ []
 
 -- ---- jobs with a fit-out, and their sheets

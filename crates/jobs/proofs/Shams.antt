@@ -1,0 +1,163 @@
+-- Document 01, "Wrong plans on the frame": the sham planners, nearest to passing first, and of each that it breaks the demand that
+-- is named beside it. Where a theorem is about one job, that job alone refuses the sham.
+use mathlib.Core.Path.{_≡_, refl, sym, _∙_, ap}
+use mathlib.Core.Logic.{_≢_}
+use mathlib.Core.Option.{none, some, Option·none-ne-some, Option·some-injective}
+use mathlib.Core.List.{List, [], _∷_, _++_, map}
+use Prim.Native.Nat.{ℕ, _+_, _*_, _≤_, _<_}
+use lib.ListN.{length, take}
+use Rattle.reasons.specs.declared.Reason.{Reason}
+use Rattle.reasons.specs.Numbers.{numberOf, rowOf}
+use Rattle.ints.proofs.{ℤ, pos, negsuc, _+ℤ_, _*ℤ_, arith, lin, _&_, facts}
+use Rattle.lists.specs.Members.{_∈_}
+use Rattle.lists.specs.Table.{table}
+use Rattle.lists.proofs.Rising.{rising-distinct, same-length}
+use Rattle.lists.proofs.Table.{in-table, rising-table, length-table, table-at}
+use Rattle.lists.proofs.Lexicographic.{lower-asym}
+use Rattle.jobs.specs.Bytes.{unsigned, u32}
+use Rattle.jobs.specs.Job.{Job, jobOf, variable}
+use Rattle.jobs.specs.Solution.{number, IsSolution, best}
+use Rattle.jobs.specs.Component.{lowest, leads, component, sheetLength}
+use Rattle.jobs.specs.Family.{componentJob, fits, base}
+use Rattle.jobs.specs.Faults.{accepted, refused as turned, checked}
+use Rattle.jobs.specs.Verdict.{planned, noFit, refused, firstWithout, shortFor?}
+use Rattle.jobs.specs.Sheet.{answerMark}
+use Rattle.jobs.specs.Demands.{numberOn, fitsOn, numbersOn, memberOn, TurnsAway, FamilyOn, GivesFits, CannotBeBettered}
+use Rattle.jobs.specs.Vectors.{header, count, difference}
+use Rattle.jobs.proofs.Faults.{reported-iff, fault-checked, fault-none, accepted-none, refused-some}
+use Rattle.jobs.proofs.Solutions.{rising-solutions, in-solutions, best-only}
+use Rattle.jobs.proofs.Assembly.{component-length}
+use Rattle.jobs.proofs.Promises.{fault}
+
+-- ---- jobs that refuse them
+abbrev pub noCounts : List ℕ
+noCounts = header 0 0 24 24
+
+-- 0..1, weight 1
+abbrev pub oneCount : List ℕ
+oneCount = header 1 0 36 36 ++ count 0 1 1
+
+-- two such counts, untied
+abbrev pub twoCounts : List ℕ
+twoCounts = header 2 0 48 48 ++ count 0 1 1 ++ count 0 1 1
+
+-- 0..1, and a second group of 0..3 and 0..3 with c1 − c2 = 1
+abbrev pub twoGroups : List ℕ
+twoGroups = header 3 1 60 80 ++ count 0 1 0 ++ count 0 3 0 ++ count 0 3 0 ++ difference 1 2 1
+
+abbrev smallJobs : List (List ℕ)
+smallJobs = noCounts ∷ oneCount ∷ twoCounts ∷ twoGroups ∷ []
+
+-- what refuses a sham is the demand and not the job: the check accepts each of them, and each of its groups has a fit-out
+small : (map checked smallJobs ≡ accepted ∷ accepted ∷ accepted ∷ accepted ∷ []) ×
+    (map (λ s. firstWithout (jobOf s)) smallJobs ≡ none ∷ none ∷ none ∷ none ∷ [])
+unfolding checked firstWithout jobOf
+small = (refl, refl)
+
+-- demand 3 leaves no other numbers than those of the best
+pub numbers-are-fixed : (s area after : List ℕ) (w : ℤ) → CannotBeBettered s area (planned w) after →
+    (i : ℕ) → i < length (jobOf s .variables) → numberOn after i ≡ number (best (jobOf s)) i
+numbers-are-fixed s area after w d i h =
+    sym (table-at (numberOn after) (length (jobOf s .variables)) i (pos 0) h)
+    ∙ ap (λ x. number x i) (best-only (jobOf s) (numbersOn (jobOf s) after) (d .optimal w refl))
+
+one-not-zero : pos 1 ≢ pos 0
+one-not-zero e = lin [] e (search facts depth 20) (omega arith)
+
+-- ---- "one that plans the first group and sets every other count to its low (demand 2, the ties; demand 3 where no tie is broken)"
+abbrev pub RestAtLow : Job → List ℕ → Type 0
+RestAtLow j after = (i : ℕ) → i < length (j .variables) → component j i ≢ 0 → numberOn after i ≡ variable j i .low
+
+pub first-group-only-ties : (area after : List ℕ) (w : ℤ) → RestAtLow (jobOf twoGroups) after → ¬ GivesFits twoGroups area (planned w) after
+unfolding jobOf unsigned table component
+first-group-only-ties area after w f d = broken (f 1 (omega arith) (omega arith)) (f 2 (omega arith) (omega arith)) (d .given w refl .0 .holds 0 (omega arith))
+  where
+    broken : {x y : ℤ} → x ≡ pos 0 → y ≡ pos 0 → pos 1 *ℤ x +ℤ negsuc 0 *ℤ y ≢ pos 1
+    broken {x} {y} p q e = lin (x ∷ y ∷ []) (p & q & e) (search facts depth 20) (omega arith)
+
+pub first-group-only-worth : (area after : List ℕ) (w : ℤ) → RestAtLow (jobOf twoCounts) after → ¬ CannotBeBettered twoCounts area (planned w) after
+unfolding jobOf unsigned table component best
+first-group-only-worth area after w f d = one-not-zero (sym (numbers-are-fixed twoCounts area after w d 1 (omega arith)) ∙ f 1 (omega arith) (omega arith))
+
+-- ---- "one whose fits are invented (demand 2, every fit-out exactly once)"
+-- as many numbers below fits as solutions, because each gives one of them, all are given, and none twice
+family-fits : {c : Job} {l g : ℕ} {after : List ℕ} → FamilyOn c l g after → fitsOn c after g ≡ fits c
+unfolding fits
+family-fits {c} {l} {g} {after} f =
+    sym (length-table member n)
+    ∙ same-length
+    (rising-table member n (λ i k h m e. omega (arith, f .once i k (omega arith) m e)))
+    (rising-distinct lower-asym (rising-solutions c))
+    (λ x. (
+      λ h. let (k, m, e) = in-table member n x .0 h in in-solutions c x .1 (f .all x .1 (k, (m, e))),
+      λ h. let (k, m) = f .all x .0 (in-solutions c x .0 h) in in-table member n x .1 (k, m .0, m .1),
+    ))
+  where
+    n : ℕ
+    n = fitsOn c after g
+
+    member : ℕ → List ℤ
+    member = memberOn c after g
+
+pub fits-are-fixed : (s area after : List ℕ) (w : ℤ) → GivesFits s area (planned w) after → (l : ℕ) → l ∈ leads (jobOf s) →
+    fitsOn (jobOf s) after (component (jobOf s) l) ≡ fits (componentJob (jobOf s) l)
+fits-are-fixed s area after w d l m =
+    let j = jobOf s in
+    ap (λ n. u32 after (24 + 16 * n + 16 * component j l)) (sym (component-length j l)) ∙ family-fits (d .given w refl .1 .1 .families l m)
+
+-- ---- "one that returns the base for any job (demand 3)"
+abbrev pub AtBase : Job → List ℕ → Type 0
+AtBase j after = (i : ℕ) → i < length (j .variables) → numberOn after i ≡ number (base (componentJob j (lowest j i))) i
+
+pub always-the-base : (area after : List ℕ) (w : ℤ) → AtBase (jobOf oneCount) after → ¬ CannotBeBettered oneCount area (planned w) after
+unfolding jobOf unsigned table componentJob base best
+always-the-base area after w f d = one-not-zero (sym (numbers-are-fixed oneCount area after w d 0 (omega arith)) ∙ f 0 (omega arith))
+
+-- ---- "one that says planned and writes no sheet (demand 2)": whatever the job, unless the area as lent begins like a sheet
+pub no-sheet : (s area : List ℕ) (w : ℤ) → take 4 area ≢ answerMark → ¬ GivesFits s area (planned w) area
+no-sheet s area w n d = n (d .given w refl .1 .0 .mark)
+
+-- ---- "one whose sheet is the same for all jobs (demand 2)": jobs that have it are of one number of counts
+pub same-sheet : (s area s′ area′ after : List ℕ) (w w′ : ℤ) → GivesFits s area (planned w) after → GivesFits s′ area′ (planned w′) after →
+    length (jobOf s .variables) ≡ length (jobOf s′ .variables)
+same-sheet s area s′ area′ after w w′ d d′ = sym (d .given w refl .1 .0 .variables) ∙ d′ .given w′ refl .1 .0 .variables
+
+-- so it is no sheet of both of these
+pub same-sheet-twice : (area area′ after : List ℕ) (w w′ : ℤ) → GivesFits noCounts area (planned w) after → ¬ GivesFits oneCount area′ (planned w′) after
+unfolding jobOf unsigned table
+same-sheet-twice area area′ after w w′ d d′ = omega (arith, same-sheet noCounts area oneCount area′ after w w′ d d′)
+
+-- ---- "one that reports "no fit" for all jobs (demand 2, only when none exists)"
+pub no-fit-for-all : (s area after : List ℕ) (l : ℕ) (x : List ℤ) → IsSolution (jobOf s) x → ¬ GivesFits s area (noFit l) after
+no-fit-for-all s area after l x h d = d .no-fit l refl .0 .none x h
+
+-- the empty list is a fit-out of the job without counts
+pub no-fit-for-noCounts : (area after : List ℕ) (l : ℕ) → ¬ GivesFits noCounts area (noFit l) after
+unfolding jobOf unsigned table
+no-fit-for-noCounts area after l =
+    no-fit-for-all noCounts area after l [] record { long = refl; low = λ i h. absurd (omega arith); high = λ i h. absurd (omega arith); holds = λ k h. absurd (omega arith) }
+
+-- ---- "one that gives reason 8 or another reason to each job before reading it (demand 1, the table's conditions, each of which
+-- is necessary as well as sufficient)"
+module _ (s area after : List ℕ) (reason row : ℕ) where
+  turned-by : TurnsAway s area (refused reason row) after → (r : Reason) × ((fault s area ≡ some r) × ((numberOf r ≡ reason) × (rowOf r ≡ row)))
+  turned-by d = let (r, h) = d .exactly reason row .0 refl in (r, (reported-iff s (shortFor? (jobOf s) area) r .1 (h .1 .1), (h .0, h .1 .0)))
+
+  -- a job that the check accepts, with room for its sheet, has no reason and row
+  pub refused-unread : checked s ≡ accepted → sheetLength (jobOf s) ≤ length area → ¬ TurnsAway s area (refused reason row) after
+  refused-unread ok room d =
+      let (r, h) = turned-by d in
+      Option·none-ne-some r (sym (fault-none s (shortFor? (jobOf s) area) (accepted-none s ok) (λ l. omega (arith, l, room))) ∙ h .0)
+
+  -- one that it refuses has its reason and row alone
+  pub refused-otherwise : (p q : ℕ) → checked s ≡ turned p q → TurnsAway s area (refused reason row) after → (reason ≡ p) × (row ≡ q)
+  refused-otherwise p q e d =
+      let (r, h) = turned-by d in
+      let (t, k) = refused-some s p q e in
+      let same : r ≡ t = Option·some-injective r t (sym (h .0) ∙ fault-checked s (shortFor? (jobOf s) area) t (k .0)) in
+      (sym (h .1 .0) ∙ ap numberOf same ∙ k .1 .0, sym (h .1 .1) ∙ ap rowOf same ∙ k .1 .1)
+
+-- so none can be given to each job
+pub refused-noCounts : (area after : List ℕ) (reason row : ℕ) → 24 ≤ length area → ¬ TurnsAway noCounts area (refused reason row) after
+unfolding checked jobOf unsigned leads
+refused-noCounts area after reason row room = refused-unread noCounts area after reason row refl room
