@@ -1,13 +1,14 @@
 //! Pseudo-random jobs of up to 9 variables and 8 equations, each damaged once to three times, against the second reading of the
 //! table. What is summed up is what the check answers.
 
-ghost use Prim.Native.Nat.{_+_, _≤_, _<_};
-use crate::job;
-use crate::job::Buffer;
-use crate::job::Row;
+ghost use Prim.Native.Nat.{_+_, _≤_};
 use crate::outcome;
 use crate::outcome::Outcome;
 use crate::table;
+use build::Buffer;
+use build::Row;
+use build::random::below;
+use build::random::next;
 
 const JOBS: u64 = 4000;
 
@@ -93,13 +94,13 @@ fn write(b: &mut Buffer, seed: u64) -> u32 {
     let n = (seed % 10) as u16;
     let x = variables(b, n, seed);
     if n < 2 {
-        job::header(b, n, 0);
-        return damages(b, job::equation_row(n, 0), next(x));
+        build::header(b, n, 0);
+        return damages(b, build::equation_row(n, 0), next(x));
     }
     let m = (seed / 10 % 9) as u16;
     let y = equations(b, n, m, x);
-    job::header(b, n, m);
-    damages(b, job::equation_row(n, m), next(y))
+    build::header(b, n, m);
+    damages(b, build::equation_row(n, m), next(y))
 }
 
 // n rows; the last random number is given back.
@@ -117,7 +118,7 @@ fn variable(b: &mut Buffer, i: u16, seed: u64) -> u64 {
     let low = next(seed);
     let high = next(low);
     let weight = next(high);
-    job::variable(
+    build::variable(
         b,
         i,
         value(low, 1000000000),
@@ -155,7 +156,7 @@ fn equation(b: &mut Buffer, n: u16, k: u16, seed: u64) -> u64
         b: value(other, 1000000),
         c: value(c, 2000000000000000),
     };
-    job::equation(b, n, k, row);
+    build::equation(b, n, k, row);
     c
 }
 
@@ -205,23 +206,9 @@ fn damage(b: &mut Buffer, length: u32, seed: u64) -> u32
         return below(x, length as u64) as u32;
     }
     if seed % 16 == 1 {
-        job::put(b, length, 4, x / 4);
+        build::put(b, length, 4, x / 4);
         return length + 1 + (x % 4) as u32;
     }
-    job::store(b, below(x, length as u64) as usize, job::low(x / 65536));
+    build::store(b, below(x, length as u64) as usize, build::low(x / 65536));
     length
-}
-
-fn below(x: u64, limit: u64) -> u64
-    requires { ⌜ 1 ≤ limit ⌝ }
-    ensures { λ r. ⌜ r < limit ⌝ }
-{
-    x % limit
-}
-
-// Marsaglia's xorshift on 64 bits.
-fn next(x: u64) -> u64 {
-    let a = x ^ (x << 13);
-    let b = a ^ (a >> 7);
-    b ^ (b << 17)
 }

@@ -1,97 +1,14 @@
-//! Jobs written into a buffer. What would lie past its end is left out.
+//! Jobs without a fault.
 
-ghost use Prim.Native.Nat.{_≤_};
-
-/// As long as a job of 257 variables and 1,025 equations, one of each more than are allowed.
-pub type Buffer = [u8; 23608];
-
-pub fn store(b: &mut Buffer, at: usize, x: u8) {
-    if at < b.len() {
-        b[at] = x;
-    }
-}
-
-/// The lowest bytes of x, the lowest first.
-pub fn put(b: &mut Buffer, at: u32, width: u32, x: u64) {
-    let mut rest = x;
-    let mut i: u32 = 0;
-    while i < width {
-        store(b, at as usize + i as usize, low(rest));
-        rest = rest / 256;
-        i += 1;
-    }
-}
-
-pub fn low(x: u64) -> u8 {
-    (x % 256) as u8
-}
-
-/// x in two's complement.
-pub fn bits(x: i64) -> u64 {
-    if x < 0 {
-        return std::num::wrapping_sub_u64(0, ints::size(x));
-    }
-    ints::size(x)
-}
-
-/// Where a variable's row begins.
-pub fn variable_row(i: u16) -> u32
-    ensures { λ r. ⌜ r ≤ 786444 ⌝ }
-{
-    24 + 12 * i as u32
-}
-
-/// Where an equation's row begins, and with m for k the whole length.
-pub fn equation_row(n: u16, k: u16) -> u32
-    ensures { λ r. ⌜ r ≤ 2097144 ⌝ }
-{
-    24 + 12 * n as u32 + 20 * k as u32
-}
-
-pub fn header(b: &mut Buffer, n: u16, m: u16) {
-    store(b, 0, b'F');
-    store(b, 1, b'I');
-    store(b, 2, b'T');
-    store(b, 3, b'1');
-    put(b, 4, 2, n as u64);
-    put(b, 6, 2, m as u64);
-    put(b, 8, 4, 24);
-    put(b, 12, 4, equation_row(n, 0) as u64);
-    put(b, 16, 4, equation_row(n, m) as u64);
-    put(b, 20, 4, 0);
-}
-
-/// The fields of an equation's row, in two's complement.
-pub struct Row {
-    pub left: u16,
-    pub right: u16,
-    pub a: u64,
-    pub b: u64,
-    pub c: u64,
-}
-
-pub fn variable(b: &mut Buffer, i: u16, low: u64, high: u64, weight: u64) {
-    let at = variable_row(i);
-    put(b, at, 4, low);
-    put(b, at + 4, 4, high);
-    put(b, at + 8, 4, weight);
-}
-
-pub fn equation(b: &mut Buffer, n: u16, k: u16, row: Row) {
-    let at = equation_row(n, k);
-    put(b, at, 2, row.left as u64);
-    put(b, at + 2, 2, row.right as u64);
-    put(b, at + 4, 4, row.a);
-    put(b, at + 8, 4, row.b);
-    put(b, at + 12, 8, row.c);
-}
+use build::Buffer;
+use build::Row;
 
 /// A job without a fault: each variable 0..9 with weight 1, each equation 2·c0 − 3·c1 = 1.
 pub fn lawful(b: &mut Buffer, n: u16, m: u16) {
-    header(b, n, m);
+    build::header(b, n, m);
     let mut i: u16 = 0;
     while i < n {
-        variable(b, i, 0, 9, 1);
+        build::variable(b, i, 0, 9, 1);
         i += 1;
     }
     equations(b, n, m);
@@ -102,12 +19,12 @@ fn equations(b: &mut Buffer, n: u16, m: u16) {
         left: 0,
         right: 1,
         a: 2,
-        b: bits(-3),
+        b: build::bits(-3),
         c: 1,
     };
     let mut k: u16 = 0;
     while k < m {
-        equation(b, n, k, row);
+        build::equation(b, n, k, row);
         k += 1;
     }
 }

@@ -4,7 +4,7 @@
 
 // what the check answers
 mod outcome;
-// jobs written into a buffer
+// jobs without a fault
 mod job;
 // the second reading of the table
 mod table;

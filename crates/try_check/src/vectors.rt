@@ -2,9 +2,9 @@
 //! document 01's table alone.
 
 use crate::job;
-use crate::job::Buffer;
 use crate::outcome;
 use crate::table;
+use build::Buffer;
 
 // Each limit, just inside and just outside, and the ends of the type. With a low of 10 or a high of -1 a low stands above
 // its high. Of the numbers of variables, those of the row are 0 and 1, and 3 is n.
@@ -153,7 +153,7 @@ fn lengths(b: &mut Buffer) {
 
 fn sized(b: &mut Buffer, length: u32, field: u64) {
     job::lawful(b, 3, 2);
-    job::put(b, 16, 4, field);
+    build::put(b, 16, 4, field);
     bar();
     print::count(length as u64);
     print::text(b" ");
@@ -181,7 +181,7 @@ fn shaped(b: &mut Buffer, n: u16, m: u16) {
     print::text(b" ");
     print::count(m as u64);
     colon();
-    ask(b, job::equation_row(n, m));
+    ask(b, build::equation_row(n, m));
 }
 
 // A field of a row, so many bytes wide, at each of the values.
@@ -197,7 +197,7 @@ fn fields(b: &mut Buffer, name: &[u8], at: u32, width: u32, values: &[i64]) {
 
 fn field(b: &mut Buffer, at: u32, width: u32, x: i64) {
     job::lawful(b, 3, 2);
-    job::put(b, at, width, job::bits(x));
+    build::put(b, at, width, build::bits(x));
     bar();
     print::number(x);
     colon();
@@ -208,17 +208,17 @@ fn field(b: &mut Buffer, at: u32, width: u32, x: i64) {
 
 // The weight of a variable is 1,000,001.
 fn overweight(b: &mut Buffer, i: u16) {
-    job::put(b, job::variable_row(i) + 8, 4, 1000001);
+    build::put(b, build::variable_row(i) + 8, 4, 1000001);
 }
 
 // The left variable of an equation is not below n.
 fn misname(b: &mut Buffer, n: u16, k: u16) {
-    job::put(b, job::equation_row(n, k), 2, n as u64);
+    build::put(b, build::equation_row(n, k), 2, n as u64);
 }
 
 // The a of an equation is 0.
 fn cancel(b: &mut Buffer, n: u16, k: u16) {
-    job::put(b, job::equation_row(n, k) + 4, 4, 0);
+    build::put(b, build::equation_row(n, k) + 4, 4, 0);
 }
 
 // A fault in the last row of a job of full size: 7, then 6 too, then 5 too.
@@ -253,11 +253,11 @@ fn order(b: &mut Buffer) {
     also(b, 100);
     overweight(b, 0);
     also(b, 100);
-    job::put(b, 20, 4, 1);
+    build::put(b, 20, 4, 1);
     also(b, 100);
-    job::put(b, 4, 2, 257);
+    build::put(b, 4, 2, 257);
     also(b, 100);
-    job::store(b, 3, b'2');
+    build::store(b, 3, b'2');
     also(b, 100);
     also(b, 23);
     end_line();

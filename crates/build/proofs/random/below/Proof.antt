@@ -1,9 +1,9 @@
--- `try_check::damaged::below` meets its contract.
+-- `build::random::below` meets its contract.
 use native.Mathlib.Nat.{mod-lt}
 use native.Mathlib.Omega.{arith}
 use borrow.Author.Needs.{needs}
-use Rattle.try_check.proofs.damaged.below.Statement.{statement}
-use Rattle.try_check.proofs.damaged.below.Tie as tie
+use Rattle.build.proofs.random.below.Statement.{statement}
+use Rattle.build.proofs.random.below.Tie as tie
 
 rem-result : tie.Need-rem-result
 rem-result c = search needs

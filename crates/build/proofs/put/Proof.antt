@@ -1,8 +1,8 @@
--- `try_check::job::put` meets its contract.
+-- `build::put` meets its contract.
 use Prim.Native.Nat.{_-_, _≤_}
 use borrow.Author.Needs.{needs}
-use Rattle.try_check.proofs.job.put.Statement.{statement}
-use Rattle.try_check.proofs.job.put.Tie as tie
+use Rattle.build.proofs.put.Statement.{statement}
+use Rattle.build.proofs.put.Tie as tie
 
 abbrev Inv-loop : tie.InvT-loop
 Inv-loop b₀ at width x rest₀ i₀ b rest i = i ≤ width
