@@ -2,10 +2,10 @@
 
 ghost use Prim.Native.Nat.{_<_};
 use crate::job;
-use crate::job::Buffer;
 use crate::plain;
 use crate::plain::Labels;
 use crate::text::Numbers;
+use build::Buffer;
 use jobs::Checked;
 use planner::Analysis;
 use planner::State;
@@ -136,8 +136,8 @@ fn plain_line(b: &Buffer, labels: Labels, i: usize) -> Line {
     let f = plain::family(b, labels, i);
     Line {
         group: plain::label(labels, i) as u64,
-        first: job::bits(plain::signed(f.first)),
-        step: job::bits(f.step),
+        first: build::bits(plain::signed(f.first)),
+        step: build::bits(f.step),
         many: if f.even { f.many as u64 } else { 4294967296 },
     }
 }
@@ -207,10 +207,10 @@ pub fn is_at(s: State, i: usize, l: Line) -> bool {
         return false;
     }
     let r = s.runs[i];
-    if job::bits(r.first) != l.first {
+    if build::bits(r.first) != l.first {
         return false;
     }
-    if job::bits(r.step) != l.step {
+    if build::bits(r.step) != l.step {
         return false;
     }
     r.many as u64 == l.many

@@ -1,7 +1,7 @@
 //! Large jobs, by hand: after the bar each variable has its group's lowest variable, base, step and fits.
 
-use crate::job::Buffer;
 use crate::table;
+use build::Buffer;
 
 pub fn all(b: &mut Buffer) {
     table::run(

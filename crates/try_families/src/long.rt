@@ -5,9 +5,8 @@ ghost use Prim.Native.Nat.{_<_};
 use crate::compare;
 use crate::compare::Line;
 use crate::compare::Tally;
-use crate::job;
-use crate::job::Buffer;
-use crate::job::Row;
+use build::Buffer;
+use build::Row;
 use planner::Analysis;
 
 pub fn all(b: &mut Buffer) {
@@ -27,15 +26,15 @@ pub fn all(b: &mut Buffer) {
 fn numbers(first: i64, step: i64, many: u64) -> Line {
     Line {
         group: 0,
-        first: job::bits(first),
-        step: job::bits(step),
+        first: build::bits(first),
+        step: build::bits(step),
         many: many,
     }
 }
 
 fn whole(t: Tally, b: &mut Buffer, backwards: bool) -> Tally {
     write(b, 1023, backwards);
-    let x = compare::analysed(b, job::equation_row(256, 1023));
+    let x = compare::analysed(b, build::equation_row(256, 1023));
     t.judge(is_chain(x, numbers(-4, 1, 9), numbers(8, -2, 9)))
 }
 
@@ -47,11 +46,11 @@ fn ended(t: Tally, b: &mut Buffer, c: i64, even: i64, odd: i64, many: u64) -> Ta
         left: 254,
         right: 255,
         a: 1,
-        b: job::bits(-1),
-        c: job::bits(c),
+        b: build::bits(-1),
+        c: build::bits(c),
     };
-    job::equation(b, 256, 1023, row);
-    let x = compare::analysed(b, job::equation_row(256, 1024));
+    build::equation(b, 256, 1023, row);
+    let x = compare::analysed(b, build::equation_row(256, 1024));
     t.judge(is_chain(x, numbers(even, 0, many), numbers(odd, 0, many)))
 }
 
@@ -74,7 +73,7 @@ fn are_lines(s: planner::State, even: Line, odd: Line) -> bool {
 }
 
 fn write(b: &mut Buffer, m: u16, backwards: bool) {
-    job::header(b, 256, m);
+    build::header(b, 256, m);
     variables(b);
     chain(b, backwards);
     rings(b);
@@ -83,7 +82,7 @@ fn write(b: &mut Buffer, m: u16, backwards: bool) {
 fn variables(b: &mut Buffer) {
     let mut i: u16 = 0;
     while i < 256 {
-        job::variable(b, i, job::bits(-9), 9);
+        build::variable(b, i, build::bits(-9), 9, 0);
         i += 1;
     }
 }
@@ -97,7 +96,7 @@ fn chain(b: &mut Buffer, backwards: bool) {
         } else {
             link(k, false)
         };
-        job::equation(b, 256, k, row);
+        build::equation(b, 256, k, row);
         k += 1;
     }
 }
@@ -135,10 +134,10 @@ fn rings(b: &mut Buffer) {
             left: k % 248,
             right: k % 248 + 2 + 2 * (k / 248),
             a: 1,
-            b: job::bits(-1),
+            b: build::bits(-1),
             c: 0,
         };
-        job::equation(b, 256, 255 + k, row);
+        build::equation(b, 256, 255 + k, row);
         k += 1;
     }
 }

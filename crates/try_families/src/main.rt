@@ -3,7 +3,7 @@
 
 // jobs written as text
 mod text;
-// jobs written into a buffer
+// the job of a line, in a buffer
 mod job;
 // the plain enumeration
 mod plain;
@@ -23,7 +23,7 @@ mod long;
 mod sweep;
 
 fn main() {
-    let mut buffer = [0u8; 23576];
+    let mut buffer = [0u8; 23608];
     vectors::all(&mut buffer);
     large::all(&mut buffer);
     long::all(&mut buffer);

@@ -3,7 +3,7 @@
 
 ghost use Prim.Native.Nat.{_≤_};
 ghost use Rattle.ints.specs.Within.{Within};
-use crate::job::Buffer;
+use build::Buffer;
 
 /// For each variable the lowest one that is joined to it.
 pub type Labels = [u8; 5];

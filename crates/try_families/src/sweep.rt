@@ -4,10 +4,11 @@
 ghost use Prim.Native.Nat.{_≤_, _<_};
 use crate::compare;
 use crate::compare::Tally;
-use crate::job;
-use crate::job::Buffer;
-use crate::job::Row;
 use crate::plain;
+use build::Buffer;
+use build::Row;
+use build::random::below;
+use build::random::next;
 
 const JOBS: u64 = 3000;
 
@@ -97,23 +98,24 @@ fn write(b: &mut Buffer, i: u64) -> u32 {
     let m = draw(seed, 1, 7) as u16;
     variables(b, n, seed);
     if n == 1 {
-        job::header(b, n, 0);
-        return job::equation_row(n, 0);
+        build::header(b, n, 0);
+        return build::equation_row(n, 0);
     }
-    job::header(b, n, m);
+    build::header(b, n, m);
     equations(b, n, m, seed);
-    job::equation_row(n, m)
+    build::equation_row(n, m)
 }
 
 fn variables(b: &mut Buffer, n: u16, seed: u64) {
     let mut i: u16 = 0;
     while i < n {
         let low = lowest(seed, i as u64);
-        job::variable(
+        build::variable(
             b,
             i,
             bits(low),
             bits(plain::sum(low, width(seed, i as u64) + 255)),
+            0,
         );
         i += 1;
     }
@@ -124,7 +126,7 @@ fn equations(b: &mut Buffer, n: u16, m: u16, seed: u64)
 {
     let mut k: u16 = 0;
     while k < m {
-        job::equation(b, n, k, row(n, k, seed));
+        build::equation(b, n, k, row(n, k, seed));
         k += 1;
     }
 }
@@ -134,14 +136,14 @@ fn row(n: u16, k: u16, seed: u64) -> Row
 {
     let at = 100 + 10 * k as u64;
     let left = draw(seed, at, n as u64);
-    let right = remainder(left + 1 + draw(seed, at + 1, n as u64 - 1), n as u64);
+    let right = below(left + 1 + draw(seed, at + 1, n as u64 - 1), n as u64);
     let e = equation(seed, at + 2, left, right);
     Row {
         left: (left % 65536) as u16,
         right: (right % 65536) as u16,
         a: bits(e.a),
         b: bits(e.b),
-        c: job::bits(e.c),
+        c: build::bits(e.c),
     }
 }
 
@@ -208,7 +210,7 @@ fn width(seed: u64, i: u64) -> u64
     ensures { λ r. ⌜ r ≤ 7 ⌝ }
 {
     let x = draw(seed, 20 + i, 16);
-    if x == 0 { 0 } else { 1 + remainder(x, 7) }
+    if x == 0 { 0 } else { 1 + below(x, 7) }
 }
 
 // One of the numbers, and the low where there is none.
@@ -254,7 +256,7 @@ fn byte(x: u64) -> u8 {
 }
 
 fn bits(x: u8) -> u64 {
-    job::bits(plain::signed(x))
+    build::bits(plain::signed(x))
 }
 
 // ---- pseudo-random numbers
@@ -264,26 +266,12 @@ fn draw(seed: u64, place: u64, limit: u64) -> u64
     requires { ⌜ 1 ≤ limit ⌝ }
     ensures { λ r. ⌜ r < limit ⌝ }
 {
-    remainder(
+    below(
         mixed(std::num::wrapping_add_u64(seed, place)) / 65536,
         limit,
     )
 }
 
-fn remainder(x: u64, limit: u64) -> u64
-    requires { ⌜ 1 ≤ limit ⌝ }
-    ensures { λ r. ⌜ r < limit ⌝ }
-{
-    x % limit
-}
-
 fn mixed(x: u64) -> u64 {
     next(next(next(std::num::wrapping_add_u64(x, 88172645463325252))))
-}
-
-// Marsaglia's xorshift on 64 bits.
-fn next(x: u64) -> u64 {
-    let a = x ^ (x << 13);
-    let b = a ^ (a >> 7);
-    b ^ (b << 17)
 }

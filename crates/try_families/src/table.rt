@@ -2,10 +2,10 @@
 
 use crate::compare;
 use crate::compare::Tally;
-use crate::job::Buffer;
 use crate::text;
 use crate::text::Numbers;
 use crate::varied;
+use build::Buffer;
 
 pub fn run(b: &mut Buffer, lines: &[u8]) {
     let mut t = compare::nothing();

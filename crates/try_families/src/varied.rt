@@ -4,9 +4,9 @@
 use crate::compare;
 use crate::compare::Tally;
 use crate::job;
-use crate::job::Buffer;
-use crate::job::Row;
 use crate::text::Numbers;
+use build::Buffer;
+use build::Row;
 
 /// The job of a line, with the forms below the end in the place of its last row.
 pub fn forms(t: Tally, b: &mut Buffer, line: Numbers, end: u64) -> Tally {
@@ -17,7 +17,7 @@ pub fn forms(t: Tally, b: &mut Buffer, line: Numbers, end: u64) -> Tally {
     let mut t = t;
     let mut code: u64 = 0;
     while code < end {
-        job::equation(b, n, k, form(code, row));
+        build::equation(b, n, k, form(code, row));
         t = t.judge(compare::is_plain(b, length));
         code += 1;
     }

@@ -1,7 +1,7 @@
 //! Small jobs, against the plain enumeration; and jobs that are turned away, with the reason and the row after the bar.
 
-use crate::job::Buffer;
 use crate::table;
+use build::Buffer;
 
 pub fn all(b: &mut Buffer) {
     table::run(
