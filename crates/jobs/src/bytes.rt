@@ -20,14 +20,14 @@ fn u8_at(s: &[u8], at: usize) -> u64
     wide(s[at])
 }
 
-pub(crate) fn u16_at(s: &[u8], at: usize) -> u64
+pub fn u16_at(s: &[u8], at: usize) -> u64
     requires { ⌜ at + 2 ≤ length (now s) ⌝ }
     ensures { λ r. ⌜ Reads 2 (now (s .entry)) at r ⌝ }
 {
     u8_at(s, at) + 256 * u8_at(s, at + 1)
 }
 
-pub(crate) fn u32_at(s: &[u8], at: usize) -> u64
+pub fn u32_at(s: &[u8], at: usize) -> u64
     requires { ⌜ at + 4 ≤ length (now s) ⌝ }
     ensures { λ r. ⌜ Reads 4 (now (s .entry)) at r ⌝ }
 {
@@ -52,14 +52,14 @@ fn signed(x: u64, most: u64) -> i64
     -1 - ((most - x) as i64)
 }
 
-pub(crate) fn i32_at(s: &[u8], at: usize) -> i64
+pub fn i32_at(s: &[u8], at: usize) -> i64
     requires { ⌜ at + 4 ≤ length (now s) ⌝ }
     ensures { λ r. ⌜ r ≡ i32 (now (s .entry)) at ⌝ }
 {
     signed(u32_at(s, at), 4294967295)
 }
 
-pub(crate) fn i64_at(s: &[u8], at: usize) -> i64
+pub fn i64_at(s: &[u8], at: usize) -> i64
     requires { ⌜ at + 8 ≤ length (now s) ⌝ }
     ensures { λ r. ⌜ r ≡ i64 (now (s .entry)) at ⌝ }
 {

@@ -14,7 +14,7 @@ ghost use Rattle.jobs.specs.Faults.{broken?, noArea?, faultOf, answerOf,
 use reasons::Reason;
 
 // little-endian numbers
-mod bytes;
+pub mod bytes;
 // the rows of variables and of equations
 mod rows;
 // the header
