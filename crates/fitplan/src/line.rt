@@ -1,6 +1,6 @@
 //! A line of output, collected so that it is written at once.
 
-/// The longest is that of a variable, with three numbers of 11 bytes.
+/// The longest is that of a variable: 75 bytes with its end, at three numbers of 11 bytes.
 pub struct Line {
     bytes: [u8; 80],
     len: usize,

@@ -1,6 +1,6 @@
 //! What is printed of a plan, as document 01 shows it. A sheet's lines are read off its bytes.
 
-ghost use Prim.Native.Nat.{_≤_, _<_};
+ghost use Prim.Native.Nat.{_≤_};
 use crate::line;
 use jobs::bytes;
 use planner::Outcome;

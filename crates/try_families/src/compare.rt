@@ -2,13 +2,14 @@
 
 ghost use Prim.Native.Nat.{_<_};
 use crate::job;
-use crate::plain;
-use crate::plain::Labels;
 use crate::text::Numbers;
 use build::Buffer;
 use jobs::Checked;
 use planner::Analysis;
 use planner::State;
+use small::byte;
+use small::plain;
+use small::plain::Labels;
 
 /// How many jobs, and how many of them came out other than expected.
 pub struct Tally {
@@ -136,7 +137,7 @@ fn plain_line(b: &Buffer, labels: Labels, i: usize) -> Line {
     let f = plain::family(b, labels, i);
     Line {
         group: plain::label(labels, i) as u64,
-        first: build::bits(plain::signed(f.first)),
+        first: byte::bits(f.first),
         step: build::bits(f.step),
         many: if f.even { f.many as u64 } else { 4294967296 },
     }

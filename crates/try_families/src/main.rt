@@ -5,8 +5,6 @@
 mod text;
 // the job of a line, in a buffer
 mod job;
-// the plain enumeration
-mod plain;
 // what the planner gives, against what is expected
 mod compare;
 // tables of jobs

@@ -1,8 +1,8 @@
--- `try_families::plain::passed_on` meets its contract.
+-- `small::plain::passed_on` meets its contract.
 use Prim.Native.Nat.{_-_, _≤_}
 use borrow.Author.Needs.{needs}
-use Rattle.try_families.proofs.plain.passed_on.Statement.{statement}
-use Rattle.try_families.proofs.plain.passed_on.Tie as tie
+use Rattle.small.proofs.plain.passed_on.Statement.{statement}
+use Rattle.small.proofs.plain.passed_on.Tie as tie
 
 abbrev Inv-loop : tie.InvT-loop
 Inv-loop b out₀ m k₀ out k = k ≤ m

@@ -1,8 +1,11 @@
 //! Document 01's groups and families by plain enumeration, from the job's bytes: for jobs of at most 5 variables, with at most 32,768
-//! points within a group's bounds, where every number is within -128..=127, so that its lowest byte says all of it.
+//! points within a group's bounds.
 
 ghost use Prim.Native.Nat.{_≤_};
-ghost use Rattle.ints.specs.Within.{Within};
+use crate::byte::combined;
+use crate::byte::gap;
+use crate::byte::signed;
+use crate::byte::sum;
 use build::Buffer;
 
 /// For each variable the lowest one that is joined to it.
@@ -49,23 +52,6 @@ fn row(b: &Buffer, k: u8) -> usize
     ensures { λ r. ⌜ r ≤ 10000 ⌝ }
 {
     24 + 12 * byte(b, 4) as usize + 20 * k as usize
-}
-
-/// A byte in two's complement.
-pub fn signed(x: u8) -> i64
-    ensures { λ r. ⌜ Within 128 r ⌝ }
-{
-    if x < 128 { x as i64 } else { x as i64 - 256 }
-}
-
-/// x and some more, as bytes.
-pub fn sum(x: u8, more: u64) -> u8 {
-    ((x as u64 + more % 256) % 256) as u8
-}
-
-/// a·x + b·y
-pub fn combined(a: u8, x: u8, b: u8, y: u8) -> i64 {
-    signed(a) * signed(x) + signed(b) * signed(y)
 }
 
 // ---- groups
@@ -230,10 +216,6 @@ fn nothing() -> Found {
         many: 0,
         even: true,
     }
-}
-
-fn gap(x: u8, y: u8) -> i64 {
-    signed(y) - signed(x)
 }
 
 impl Found {

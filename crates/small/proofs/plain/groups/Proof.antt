@@ -1,8 +1,8 @@
--- `try_families::plain::groups` meets its contract.
+-- `small::plain::groups` meets its contract.
 use Prim.Native.Nat.{_-_, _≤_}
 use borrow.Author.Needs.{needs}
-use Rattle.try_families.proofs.plain.groups.Statement.{statement}
-use Rattle.try_families.proofs.plain.groups.Tie as tie
+use Rattle.small.proofs.plain.groups.Statement.{statement}
+use Rattle.small.proofs.plain.groups.Tie as tie
 
 abbrev Inv-loop : tie.InvT-loop
 Inv-loop b labels n g₀ i₀ g i = (g ≤ i) × (i ≤ n)

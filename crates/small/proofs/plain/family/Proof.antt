@@ -1,8 +1,8 @@
--- `try_families::plain::family` meets its contract.
+-- `small::plain::family` meets its contract.
 use Prim.Native.Nat.{_-_, _≤_}
 use borrow.Author.Needs.{needs}
-use Rattle.try_families.proofs.plain.family.Statement.{statement}
-use Rattle.try_families.proofs.plain.family.Tie as tie
+use Rattle.small.proofs.plain.family.Statement.{statement}
+use Rattle.small.proofs.plain.family.Tie as tie
 
 abbrev Inv-loop : tie.InvT-loop
 Inv-loop b labels i g found₀ code₀ found code = code ≤ 32768

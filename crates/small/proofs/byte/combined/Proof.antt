@@ -1,8 +1,8 @@
--- `try_families::plain::combined` meets its contract.
+-- `small::byte::combined` meets its contract.
 use borrow.Author.Needs.{needs}
-use Rattle.try_families.proofs.Bytes.{product, products}
-use Rattle.try_families.proofs.plain.combined.Statement.{statement}
-use Rattle.try_families.proofs.plain.combined.Tie as tie
+use Rattle.small.proofs.Bytes.{product, products}
+use Rattle.small.proofs.byte.combined.Statement.{statement}
+use Rattle.small.proofs.byte.combined.Tie as tie
 
 signed-requires : tie.Need-signed-requires
 signed-requires c κs = search needs

@@ -1,4 +1,4 @@
--- The laws that the proofs of this program share.
+-- The laws that the proofs of this crate share.
 
 -- numbers of one byte: differences, products and their sums fit
 pub mod Bytes

@@ -1,8 +1,8 @@
--- `try_families::plain::labels` meets its contract.
+-- `small::plain::labels` meets its contract.
 use Prim.Native.Nat.{_-_, _≤_}
 use borrow.Author.Needs.{needs}
-use Rattle.try_families.proofs.plain.labels.Statement.{statement}
-use Rattle.try_families.proofs.plain.labels.Tie as tie
+use Rattle.small.proofs.plain.labels.Statement.{statement}
+use Rattle.small.proofs.plain.labels.Tie as tie
 
 abbrev Inv-loop : tie.InvT-loop
 Inv-loop b labels₀ i₀ labels i = i ≤ 5

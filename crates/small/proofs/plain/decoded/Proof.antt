@@ -1,8 +1,8 @@
--- `try_families::plain::decoded` meets its contract.
+-- `small::plain::decoded` meets its contract.
 use Prim.Native.Nat.{_-_, _≤_}
 use borrow.Author.Needs.{needs}
-use Rattle.try_families.proofs.plain.decoded.Statement.{statement}
-use Rattle.try_families.proofs.plain.decoded.Tie as tie
+use Rattle.small.proofs.plain.decoded.Statement.{statement}
+use Rattle.small.proofs.plain.decoded.Tie as tie
 
 abbrev Inv-loop : tie.InvT-loop
 Inv-loop b labels g code at₀ rest₀ i₀ at rest i = i ≤ 5

@@ -1,8 +1,8 @@
--- `try_families::sweep::equations` meets its contract.
+-- `small::random::equations` meets its contract.
 use Prim.Native.Nat.{_-_, _≤_}
 use borrow.Author.Needs.{needs}
-use Rattle.try_families.proofs.sweep.equations.Statement.{statement}
-use Rattle.try_families.proofs.sweep.equations.Tie as tie
+use Rattle.small.proofs.random.equations.Statement.{statement}
+use Rattle.small.proofs.random.equations.Tie as tie
 
 abbrev Inv-loop : tie.InvT-loop
 Inv-loop b₀ n m seed k₀ b k = k ≤ m

@@ -1,8 +1,8 @@
--- `try_families::plain::holds` meets its contract.
+-- `small::plain::holds` meets its contract.
 use Prim.Native.Nat.{_-_, _≤_}
 use borrow.Author.Needs.{needs}
-use Rattle.try_families.proofs.plain.holds.Statement.{statement}
-use Rattle.try_families.proofs.plain.holds.Tie as tie
+use Rattle.small.proofs.plain.holds.Statement.{statement}
+use Rattle.small.proofs.plain.holds.Tie as tie
 
 abbrev Inv-loop : tie.InvT-loop
 Inv-loop b labels g p m k₀ k = k ≤ m

@@ -1,8 +1,8 @@
--- `try_families::plain::gap` meets its contract.
+-- `small::byte::gap` meets its contract.
 use borrow.Author.Needs.{needs}
-use Rattle.try_families.proofs.Bytes.{difference}
-use Rattle.try_families.proofs.plain.gap.Statement.{statement}
-use Rattle.try_families.proofs.plain.gap.Tie as tie
+use Rattle.small.proofs.Bytes.{difference}
+use Rattle.small.proofs.byte.gap.Statement.{statement}
+use Rattle.small.proofs.byte.gap.Tie as tie
 
 signed-requires : tie.Need-signed-requires
 signed-requires c κs = search needs

@@ -1,9 +1,9 @@
--- `try_families::plain::signed` meets its contract.
+-- `small::byte::signed` meets its contract.
 use native.Mathlib.Omega.{arith}
 use borrow.Author.Needs.{needs}
-use Rattle.try_families.proofs.Bytes.{upper, lower-fits, lower}
-use Rattle.try_families.proofs.plain.signed.Statement.{statement}
-use Rattle.try_families.proofs.plain.signed.Tie as tie
+use Rattle.small.proofs.Bytes.{upper, lower-fits, lower}
+use Rattle.small.proofs.byte.signed.Statement.{statement}
+use Rattle.small.proofs.byte.signed.Tie as tie
 
 cast-result : tie.Need-cast-result
 cast-result c = search needs
