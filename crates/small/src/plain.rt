@@ -27,7 +27,13 @@ fn byte(b: &Buffer, at: usize) -> u8 {
     if at < b.len() { b[at] } else { 0 }
 }
 
-/// How many variables, as far as this module goes.
+/// How many equations there are, and how many variables, as far as this module goes.
+pub fn equations(b: &Buffer) -> usize
+    ensures { λ r. ⌜ r ≤ 255 ⌝ }
+{
+    byte(b, 6) as usize
+}
+
 pub fn variables(b: &Buffer) -> usize
     ensures { λ r. ⌜ r ≤ 5 ⌝ }
 {
@@ -45,6 +51,12 @@ fn high(b: &Buffer, i: usize) -> u8
     requires { ⌜ i ≤ 5 ⌝ }
 {
     byte(b, 28 + 12 * i)
+}
+
+pub fn weight(b: &Buffer, i: usize) -> u8
+    requires { ⌜ i ≤ 5 ⌝ }
+{
+    byte(b, 32 + 12 * i)
 }
 
 // Where row k begins.
@@ -100,7 +112,9 @@ fn lowered(labels: Labels, i: usize, x: u8) -> Labels {
 }
 
 /// How many groups.
-pub fn groups(b: &Buffer, labels: Labels) -> usize {
+pub fn groups(b: &Buffer, labels: Labels) -> usize
+    ensures { λ r. ⌜ r ≤ 5 ⌝ }
+{
     let n = variables(b);
     let mut g: usize = 0;
     let mut i: usize = 0;
@@ -138,19 +152,19 @@ pub fn family(b: &Buffer, labels: Labels, i: usize) -> Found {
 }
 
 /// A number within its bounds for each variable of a group; or the codes are past the last such point.
-struct Point {
-    at: [u8; 5],
-    past: bool,
+pub struct Point {
+    pub at: [u8; 5],
+    pub past: bool,
 }
 
 impl Point {
-    fn get(self, i: usize) -> u8 {
+    pub fn get(self, i: usize) -> u8 {
         if i < 5 { self.at[i] } else { 0 }
     }
 }
 
-// A code has a digit for each variable, the last one's lowest: how far it stands above its low.
-fn decoded(b: &Buffer, labels: Labels, g: u8, code: u64) -> Point {
+/// A code has a digit for each variable, the last one's lowest: how far it stands above its low.
+pub fn decoded(b: &Buffer, labels: Labels, g: u8, code: u64) -> Point {
     let mut at: [u8; 5] = [0; 5];
     let mut rest = code;
     let mut i = variables(b);
@@ -169,8 +183,8 @@ fn decoded(b: &Buffer, labels: Labels, g: u8, code: u64) -> Point {
     }
 }
 
-// How many numbers a variable of the group has. The others stay at their lows.
-fn width(b: &Buffer, labels: Labels, g: u8, i: usize) -> u64
+/// How many numbers a variable of the group has. The others stay at their lows.
+pub fn width(b: &Buffer, labels: Labels, g: u8, i: usize) -> u64
     requires { ⌜ i ≤ 5 ⌝ }
 {
     if label(labels, i) != g {
@@ -184,8 +198,8 @@ fn width(b: &Buffer, labels: Labels, g: u8, i: usize) -> u64
     (256 + high as u64 - low as u64) % 256 + 1
 }
 
-// Every equation of the group.
-fn holds(b: &Buffer, labels: Labels, g: u8, p: Point) -> bool {
+/// Does every equation of the group hold?
+pub fn holds(b: &Buffer, labels: Labels, g: u8, p: Point) -> bool {
     let m = byte(b, 6);
     let mut k: u8 = 0;
     while k < m {

@@ -1,0 +1,34 @@
+-- `try_plan::vectors::alike` meets its contract.
+use Prim.Native.Nat.{_-_, _≤_}
+use borrow.Author.Needs.{needs}
+use Rattle.try_plan.proofs.vectors.alike.Statement.{statement}
+use Rattle.try_plan.proofs.vectors.alike.Tie as tie
+
+abbrev Inv-loop : tie.InvT-loop
+Inv-loop b₀ n low high weight i₀ b i = i ≤ n
+
+abbrev μ-loop : tie.MeasureT-loop
+μ-loop b₀ n low high weight i₀ b i = n - i
+
+loop-holds : tie.Need-loop-holds Inv-loop μ-loop
+loop-holds c = search needs
+
+variable-requires : tie.Need-variable-requires Inv-loop μ-loop
+variable-requires c κs = search needs
+
+add-i : tie.Need-add-i Inv-loop μ-loop
+add-i c = search needs
+
+loop-less : tie.Need-loop-less Inv-loop μ-loop
+loop-less c = search needs
+
+loop-again : tie.Need-loop-again Inv-loop μ-loop
+loop-again c = search needs
+
+returns : tie.Need-returns Inv-loop μ-loop
+returns c = search needs
+
+pub alike-spec : {M : Type 1} → statement M
+alike-spec =
+    tie.close
+    (tie.spec Inv-loop μ-loop loop-holds variable-requires add-i loop-less loop-again returns)

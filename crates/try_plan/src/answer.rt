@@ -1,0 +1,88 @@
+//! What the planner answers, in numbers.
+
+use planner::Outcome;
+
+pub struct Answer {
+    pub kind: u8,
+    /// the worth in two's complement, or the lowest variable of the group without a fit, or the reason
+    pub value: u64,
+    pub row: u16,
+}
+
+const PLANNED: u8 = 0;
+
+const NO_FIT: u8 = 1;
+
+const REFUSED: u8 = 2;
+
+pub fn planned(worth: u64) -> Answer {
+    Answer {
+        kind: PLANNED,
+        value: worth,
+        row: 0,
+    }
+}
+
+pub fn no_fit(variable: u16) -> Answer {
+    Answer {
+        kind: NO_FIT,
+        value: variable as u64,
+        row: 0,
+    }
+}
+
+pub fn refused(reason: u16, row: u16) -> Answer {
+    Answer {
+        kind: REFUSED,
+        value: reason as u64,
+        row: row,
+    }
+}
+
+/// The planner's own.
+pub fn of(job: &[u8], area: &mut [u8]) -> Answer {
+    let outcome = planner::plan(job, area);
+    match outcome {
+        Outcome::Planned(worth) => planned(build::bits(worth)),
+        Outcome::NoFit(variable) => no_fit(variable),
+        Outcome::Refused(reason) => refused(reason.number(), reason.row()),
+    }
+}
+
+impl Answer {
+    pub fn is_planned(self) -> bool {
+        self.kind == PLANNED
+    }
+
+    pub fn equals(self, other: Answer) -> bool {
+        if self.kind != other.kind {
+            return false;
+        }
+        if self.value != other.value {
+            return false;
+        }
+        self.row == other.row
+    }
+
+    pub fn show(self) {
+        let kind = self.kind;
+        match kind {
+            PLANNED => print::text(b"planned "),
+            NO_FIT => print::text(b"no fit at "),
+            _ => print::text(b"refused "),
+        }
+        show_bits(self.value);
+        print::text(b" row ");
+        print::count(self.row as u64);
+    }
+}
+
+// A number in two's complement.
+fn show_bits(x: u64) {
+    if x < 9223372036854775808 {
+        print::count(x);
+    } else {
+        print::text(b"-");
+        print::count(std::num::wrapping_sub_u64(0, x));
+    }
+}
