@@ -67,13 +67,21 @@ impl Answer {
     pub fn show(self) {
         let kind = self.kind;
         match kind {
-            PLANNED => print::text(b"planned "),
-            NO_FIT => print::text(b"no fit at "),
-            _ => print::text(b"refused "),
+            PLANNED => {
+                print::text(b"planned ");
+                show_bits(self.value);
+            }
+            NO_FIT => {
+                print::text(b"no fit at count ");
+                print::count(self.value);
+            }
+            _ => {
+                print::text(b"refused ");
+                print::count(self.value);
+                print::text(b" row ");
+                print::count(self.row as u64);
+            }
         }
-        show_bits(self.value);
-        print::text(b" row ");
-        print::count(self.row as u64);
     }
 }
 

@@ -1,6 +1,5 @@
 //! What kinds of jobs the pseudo-random ones are, and how many of each: it shows what is tried.
 
-use crate::search;
 use crate::search::Plan;
 use build::Buffer;
 use small::plain;

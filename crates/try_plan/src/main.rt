@@ -10,6 +10,8 @@ mod sheet;
 mod trial;
 // the plain search
 mod search;
+// the sheet that it finds
+mod rows;
 // jobs of document 01, by hand
 mod vectors;
 // what kinds of jobs there are

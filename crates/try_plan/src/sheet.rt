@@ -51,12 +51,14 @@ pub fn group(b: &mut Buffer, n: u16, group: u16, fits: u64, chosen: u64, gain: u
     build::put(b, at + 8, 8, gain);
 }
 
-/// Prints what stands at a byte of a sheet.
-pub fn show(b: &Buffer, at: u32) {
+/// Prints what stands at a byte of an area, in which there is a sheet or nothing is written.
+pub fn show(b: &Buffer, at: u32, written: bool) {
     let n = byte(b, 4) as u32 + 256 * byte(b, 5) as u32;
     let g = byte(b, 6) as u32 + 256 * byte(b, 7) as u32;
     let groups = 24 + 16 * n;
-    if at < 24 {
+    if !written {
+        print::text(b"an area to be kept");
+    } else if at < 24 {
         print::text(b"the header");
     } else if at < groups {
         show_variable((at - 24) / 16, (at - 24) % 16);

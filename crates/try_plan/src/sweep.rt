@@ -3,6 +3,7 @@
 use crate::answer;
 use crate::kinds;
 use crate::kinds::Counts;
+use crate::rows;
 use crate::search;
 use crate::search::Plan;
 use crate::sheet;
@@ -61,7 +62,7 @@ fn is_right(
     expected: &mut Buffer,
 ) -> bool {
     let labels = p.labels;
-    let size = search::length(b, labels);
+    let size = rows::length(b, labels);
     let exact = trial::of(job, length, size, 13);
     let longer = trial::of(job, length, size + 9, 200);
     let short = trial::of(job, length, size - 1, 77);
@@ -78,7 +79,7 @@ fn is_right(
 
 fn is_found(t: Trial, p: Plan, b: &Buffer, area: &mut Buffer, expected: &mut Buffer) -> bool {
     sheet::fill(expected, t.end(), t.start);
-    search::write(expected, b, p);
+    rows::write(expected, b, p);
     t.is_right(p.answer, b, area, expected)
 }
 

@@ -29,16 +29,22 @@ impl Trial {
         self.size as u32 + 16
     }
 
-    /// Does the planner answer so for the job in b, and leave in the area what is expected?
-    pub fn is_right(self, given: Answer, b: &Buffer, area: &mut Buffer, expected: &Buffer) -> bool {
+    /// Does the planner answer so for the job in b, and leave in the area what is expected? If not, a line says what differs.
+    pub fn is_right(
+        self,
+        answer: Answer,
+        b: &Buffer,
+        area: &mut Buffer,
+        expected: &Buffer,
+    ) -> bool {
         sheet::fill(area, self.end(), self.start);
-        let answer = ask(b, self.length, area, self.size);
+        let given = ask(b, self.length, area, self.size);
         let at = first_difference(area, expected, self.end());
-        if !answer.equals(given) {
+        if !given.equals(answer) {
             self.show();
-            answer.show();
-            print::text(b" and not ");
             given.show();
+            print::text(b" and not ");
+            answer.show();
             print::text(b"\n");
             return false;
         }
@@ -47,7 +53,7 @@ impl Trial {
             print::text(b"byte ");
             print::count(at as u64);
             print::text(b", ");
-            sheet::show(expected, at);
+            sheet::show(expected, at, answer.is_planned());
             print::text(b"\n");
             return false;
         }

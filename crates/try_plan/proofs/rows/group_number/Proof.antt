@@ -1,8 +1,8 @@
--- `try_plan::search::group_number` meets its contract.
+-- `try_plan::rows::group_number` meets its contract.
 use Prim.Native.Nat.{_-_, _≤_}
 use borrow.Author.Needs.{needs}
-use Rattle.try_plan.proofs.search.group_number.Statement.{statement}
-use Rattle.try_plan.proofs.search.group_number.Tie as tie
+use Rattle.try_plan.proofs.rows.group_number.Statement.{statement}
+use Rattle.try_plan.proofs.rows.group_number.Tie as tie
 
 abbrev Inv-loop : tie.InvT-loop
 Inv-loop labels lowest g₀ i₀ g i = i ≤ lowest

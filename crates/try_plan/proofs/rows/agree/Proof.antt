@@ -1,8 +1,8 @@
--- `try_plan::search::agree` meets its contract.
+-- `try_plan::rows::agree` meets its contract.
 use Prim.Native.Nat.{_-_, _≤_}
 use borrow.Author.Needs.{needs}
-use Rattle.try_plan.proofs.search.agree.Statement.{statement}
-use Rattle.try_plan.proofs.search.agree.Tie as tie
+use Rattle.try_plan.proofs.rows.agree.Statement.{statement}
+use Rattle.try_plan.proofs.rows.agree.Tie as tie
 
 abbrev Inv-loop : tie.InvT-loop
 Inv-loop b labels g p q n i₀ i = i ≤ n

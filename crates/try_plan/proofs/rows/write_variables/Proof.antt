@@ -1,8 +1,8 @@
--- `try_plan::search::write_groups` meets its contract.
+-- `try_plan::rows::write_variables` meets its contract.
 use Prim.Native.Nat.{_-_, _≤_}
 use borrow.Author.Needs.{needs}
-use Rattle.try_plan.proofs.search.write_groups.Statement.{statement}
-use Rattle.try_plan.proofs.search.write_groups.Tie as tie
+use Rattle.try_plan.proofs.rows.write_variables.Statement.{statement}
+use Rattle.try_plan.proofs.rows.write_variables.Tie as tie
 
 abbrev Inv-loop : tie.InvT-loop
 Inv-loop e₀ b labels list n i₀ e i = i ≤ n
@@ -16,17 +16,8 @@ variables-requires c κs = search needs
 loop-holds : tie.Need-loop-holds Inv-loop μ-loop
 loop-holds c = search needs
 
-cast-label : tie.Need-cast-label Inv-loop μ-loop
-cast-label c = search needs
-
-label-requires : tie.Need-label-requires Inv-loop μ-loop
-label-requires c κs = search needs
-
-cast-if1 : tie.Need-cast-if1 Inv-loop μ-loop
-cast-if1 c = search needs
-
-write-group-requires : tie.Need-write-group-requires Inv-loop μ-loop
-write-group-requires c κs = search needs
+write-variable-requires : tie.Need-write-variable-requires Inv-loop μ-loop
+write-variable-requires c κs = search needs
 
 add-i : tie.Need-add-i Inv-loop μ-loop
 add-i c = search needs
@@ -40,18 +31,15 @@ loop-again c = search needs
 returns : tie.Need-returns Inv-loop μ-loop
 returns c = search needs
 
-pub write-groups-spec : {M : Type 1} → statement M
-write-groups-spec =
+pub write-variables-spec : {M : Type 1} → statement M
+write-variables-spec =
     tie.close
     (tie.spec
     Inv-loop
     μ-loop
     variables-requires
     loop-holds
-    cast-label
-    label-requires
-    cast-if1
-    write-group-requires
+    write-variable-requires
     add-i
     loop-less
     loop-again

@@ -1,8 +1,8 @@
--- `try_plan::search::gain` meets its contract.
+-- `try_plan::rows::gain` meets its contract.
 use Prim.Native.Nat.{_-_, _≤_}
 use borrow.Author.Needs.{needs}
-use Rattle.try_plan.proofs.search.gain.Statement.{statement}
-use Rattle.try_plan.proofs.search.gain.Tie as tie
+use Rattle.try_plan.proofs.rows.gain.Statement.{statement}
+use Rattle.try_plan.proofs.rows.gain.Tie as tie
 
 abbrev Inv-loop : tie.InvT-loop
 Inv-loop b labels g n sum₀ i₀ sum i = i ≤ n

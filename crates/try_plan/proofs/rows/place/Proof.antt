@@ -1,8 +1,8 @@
--- `try_plan::search::place` meets its contract.
+-- `try_plan::rows::place` meets its contract.
 use Prim.Native.Nat.{_-_, _≤_}
 use borrow.Author.Needs.{needs}
-use Rattle.try_plan.proofs.search.place.Statement.{statement}
-use Rattle.try_plan.proofs.search.place.Tie as tie
+use Rattle.try_plan.proofs.rows.place.Statement.{statement}
+use Rattle.try_plan.proofs.rows.place.Tie as tie
 
 abbrev Inv-loop : tie.InvT-loop
 Inv-loop b labels g list k₀ code₀ k code = code ≤ 32768
