@@ -41,23 +41,31 @@ impl Trial {
         let given = ask(b, self.length, area, self.size);
         let at = first_difference(area, expected, self.end());
         if !given.equals(answer) {
-            self.show();
-            given.show();
-            print::text(b" and not ");
-            answer.show();
-            print::text(b"\n");
+            self.show_answers(given, answer);
             return false;
         }
         if at < self.end() {
-            self.show();
-            print::text(b"byte ");
-            print::count(at as u64);
-            print::text(b", ");
-            sheet::show(expected, at, answer.is_planned());
-            print::text(b"\n");
+            self.show_byte(expected, at, answer.is_planned());
             return false;
         }
         true
+    }
+
+    fn show_answers(self, given: Answer, answer: Answer) {
+        self.show();
+        given.show();
+        print::text(b" and not ");
+        answer.show();
+        print::text(b"\n");
+    }
+
+    fn show_byte(self, expected: &Buffer, at: u32, planned: bool) {
+        self.show();
+        print::text(b"byte ");
+        print::count(at as u64);
+        print::text(b", ");
+        sheet::show(expected, at, planned);
+        print::text(b"\n");
     }
 
     fn show(self) {

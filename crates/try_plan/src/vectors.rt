@@ -15,21 +15,38 @@ struct Tally {
 }
 
 pub fn all(b: &mut Buffer, area: &mut Buffer, e: &mut Buffer) {
-    let t = Tally { jobs: 0, differ: 0 };
-    let t = example(t, b, area, e);
-    let t = no_variables(t, b, area, e);
-    let t = full_range(t, b, area, e);
-    let t = largest_coefficients(t, b, area, e);
-    let t = limit_of_a(t, b, area, e);
-    let t = apart(t, b, area, e);
-    let t = chained(t, b, area, e);
-    let t = no_fit(t, b, area, e);
-    let t = later_groups(t, b, area, e);
+    let t = small(Tally { jobs: 0, differ: 0 }, b, area, e);
+    let t = full(t, b, area, e);
+    let t = large(t, b, area, e);
+    let t = without_fit(t, b, area, e);
     print::text(b"by hand jobs ");
     print::count(t.jobs);
     print::text(b" differ ");
     print::count(t.differ);
     print::text(b"\n");
+}
+
+fn small(t: Tally, b: &mut Buffer, area: &mut Buffer, e: &mut Buffer) -> Tally {
+    let t = example(t, b, area, e);
+    no_variables(t, b, area, e)
+}
+
+// Numbers at their limits.
+fn full(t: Tally, b: &mut Buffer, area: &mut Buffer, e: &mut Buffer) -> Tally {
+    let t = full_range(t, b, area, e);
+    let t = largest_coefficients(t, b, area, e);
+    limit_of_a(t, b, area, e)
+}
+
+// 256 variables.
+fn large(t: Tally, b: &mut Buffer, area: &mut Buffer, e: &mut Buffer) -> Tally {
+    let t = apart(t, b, area, e);
+    chained(t, b, area, e)
+}
+
+fn without_fit(t: Tally, b: &mut Buffer, area: &mut Buffer, e: &mut Buffer) -> Tally {
+    let t = no_fit(t, b, area, e);
+    later_groups(t, b, area, e)
 }
 
 impl Tally {
@@ -79,6 +96,14 @@ fn row(a: i64, left: u16, b: i64, right: u16, c: i64) -> Row {
 // Job M. c0 is 2, 5, 8, .. for 2·c0 − 4 to be 3·c2, and at most 12 for c1 = 16·c0 to be at most 200. A step gains
 // −30·3 + 4·48 − 10·2 = 82. At c0 = 11 the worth is −330 + 704 − 60 = 314.
 fn example(t: Tally, b: &mut Buffer, area: &mut Buffer, e: &mut Buffer) -> Tally {
+    example_job(b);
+    blank(e);
+    let t = t.hold(112, 119, answer::refused(8, 0), b, area, e);
+    example_sheet(e);
+    t.hold(112, 120, answer::planned(314), b, area, e)
+}
+
+fn example_job(b: &mut Buffer) {
     build::header(b, 4, 2);
     variable(b, 0, 0, 20, -30);
     variable(b, 1, 0, 200, 4);
@@ -86,8 +111,9 @@ fn example(t: Tally, b: &mut Buffer, area: &mut Buffer, e: &mut Buffer) -> Tally
     variable(b, 3, 2, 5, 0);
     build::equation(b, 4, 0, row(16, 0, -1, 1, 0));
     build::equation(b, 4, 1, row(2, 0, -3, 2, 4));
-    blank(e);
-    let t = t.hold(112, 119, answer::refused(8, 0), b, area, e);
+}
+
+fn example_sheet(e: &mut Buffer) {
     sheet::header(e, 4, 2, 314);
     sheet::variable(e, 0, 11, 2, 3, 0);
     sheet::variable(e, 1, 176, 32, 48, 0);
@@ -95,7 +121,6 @@ fn example(t: Tally, b: &mut Buffer, area: &mut Buffer, e: &mut Buffer) -> Tally
     sheet::variable(e, 3, 2, 2, 1, 1);
     sheet::group(e, 4, 0, 4, 3, 82);
     sheet::group(e, 4, 1, 4, 0, 0);
-    t.hold(112, 120, answer::planned(314), b, area, e)
 }
 
 fn no_variables(t: Tally, b: &mut Buffer, area: &mut Buffer, e: &mut Buffer) -> Tally {
@@ -152,20 +177,28 @@ fn tied_sheet(e: &mut Buffer, last: bool, gain: i64, worth: u64) {
     sheet::group(e, 2, 0, 2000, chosen, build::bits(gain));
 }
 
-// a·c0 − c1 = 0 at the limit of a, where c1 is 0, 1,000,000, .., 9,000,000, and just past it.
+// a·c0 − c1 = 0 just past the limit of a, and at it, where c1 is 0, 1,000,000, .., 9,000,000.
 fn limit_of_a(t: Tally, b: &mut Buffer, area: &mut Buffer, e: &mut Buffer) -> Tally {
+    multiple(b, 1000001);
+    blank(e);
+    let t = t.hold(68, 72, answer::refused(7, 0), b, area, e);
+    multiple(b, 1000000);
+    multiple_sheet(e);
+    t.hold(68, 72, answer::planned(9000000), b, area, e)
+}
+
+fn multiple(b: &mut Buffer, a: i64) {
     build::header(b, 2, 1);
     variable(b, 0, 0, 9, 0);
     variable(b, 1, 0, 1000000000, 1);
-    build::equation(b, 2, 0, row(1000001, 0, -1, 1, 0));
-    blank(e);
-    let t = t.hold(68, 72, answer::refused(7, 0), b, area, e);
-    build::equation(b, 2, 0, row(1000000, 0, -1, 1, 0));
+    build::equation(b, 2, 0, row(a, 0, -1, 1, 0));
+}
+
+fn multiple_sheet(e: &mut Buffer) {
     sheet::header(e, 2, 1, 9000000);
     sheet::variable(e, 0, 9, 0, 1, 0);
     sheet::variable(e, 1, 9000000, 0, 1000000, 0);
     sheet::group(e, 2, 0, 10, 9, 1000000);
-    t.hold(68, 72, answer::planned(9000000), b, area, e)
 }
 
 // 256 variables, 0..9 with weight 1 and each a group of its own: the sheet is 24 + 16·256 + 16·256 bytes long, and the worth 256·9. One
