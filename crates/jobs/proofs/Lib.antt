@@ -29,5 +29,7 @@ pub mod Fields
 pub mod Promises
 -- verdict and sheet, case by case
 pub mod Outcomes
+-- of a list longer than any lawful job the first part is answered as the whole
+pub mod Longer
 -- the sham planners of document 01, each refused by the demand that is named beside it
 pub mod Shams
