@@ -10,9 +10,13 @@ use build::random::next;
 /// What every draw starts from.
 pub const SEED: u64 = 88172645463325252;
 
-/// Job i, of 1 to so many variables, with weights or with none. What is given is its length.
-pub fn write(b: &mut Buffer, i: u64, most: u16, weighted: bool) -> u32
+/// Job i, of 1 to so many variables, with weights or with none, and of one of so many forms. What is given is its length.
+///
+/// Form 0 has any c; form 1 a point at which all equations hold; form 2 a line of such points; form 3 a line that the last row crosses
+/// at that point or near it.
+pub fn write(b: &mut Buffer, i: u64, most: u16, weighted: bool, forms: u64) -> u32
     requires { ⌜ 1 ≤ most ⌝ }
+    requires { ⌜ 1 ≤ forms ⌝ }
 {
     let seed = mixed(i);
     let n = 1 + draw(seed, 0, most as u64) as u16;
@@ -23,7 +27,7 @@ pub fn write(b: &mut Buffer, i: u64, most: u16, weighted: bool) -> u32
         return build::equation_row(n, 0);
     }
     build::header(b, n, m);
-    equations(b, n, m, seed);
+    equations(b, n, m, seed, draw(seed, 2, forms));
     build::equation_row(n, m)
 }
 
@@ -42,23 +46,29 @@ fn variable(b: &mut Buffer, i: u16, seed: u64, weighted: bool) {
     build::variable(b, i, byte::bits(low), byte::bits(high), weight);
 }
 
-fn equations(b: &mut Buffer, n: u16, m: u16, seed: u64)
+fn equations(b: &mut Buffer, n: u16, m: u16, seed: u64, form: u64)
     requires { ⌜ 2 ≤ n ⌝ }
 {
     let mut k: u16 = 0;
     while k < m {
-        build::equation(b, n, k, row(n, k, seed));
+        let of_row = if k + 1 == m { form } else { before(form) };
+        build::equation(b, n, k, row(n, k, seed, of_row));
         k += 1;
     }
 }
 
-fn row(n: u16, k: u16, seed: u64) -> Row
+// The form of the rows before the last.
+fn before(form: u64) -> u64 {
+    if form == 3 { 2 } else { form }
+}
+
+fn row(n: u16, k: u16, seed: u64, form: u64) -> Row
     requires { ⌜ 2 ≤ n ⌝ }
 {
     let at = 100 + 10 * k as u64;
     let left = draw(seed, at, n as u64);
     let right = below(left + 1 + draw(seed, at + 1, n as u64 - 1), n as u64);
-    let e = equation(seed, at + 2, left, right);
+    let e = equation(seed, at + 2, left, right, form);
     Row {
         left: (left % 65536) as u16,
         right: (right % 65536) as u16,
@@ -75,14 +85,12 @@ struct Small {
     c: i64,
 }
 
-// A third of the jobs have any c, a third a point at which all equations hold, and a third a line of such points.
-fn equation(seed: u64, at: u64, left: u64, right: u64) -> Small
+fn equation(seed: u64, at: u64, left: u64, right: u64, form: u64) -> Small
     requires { ⌜ at ≤ 1000000 ⌝ }
     requires { ⌜ left ≤ 65536 ⌝ }
     requires { ⌜ right ≤ 65536 ⌝ }
 {
-    let mode = draw(seed, 2, 3);
-    if mode == 2 {
+    if form == 2 {
         let by = draw(seed, at, 4);
         let a = times(slope(seed, right), by);
         let b = byte::negated(times(slope(seed, left), by));
@@ -94,18 +102,17 @@ fn equation(seed: u64, at: u64, left: u64, right: u64) -> Small
     }
     let a = coefficient(seed, at);
     let b = coefficient(seed, at + 1);
-    if mode == 1 {
-        return Small {
-            a: a,
-            b: b,
-            c: through(seed, a, left, b, right),
-        };
-    }
-    Small {
-        a: a,
-        b: b,
-        c: byte::signed(build::low(240 + draw(seed, at + 2, 33))),
-    }
+    let c = match form {
+        1 => through(seed, a, left, b, right),
+        3 => near(through(seed, a, left, b, right), draw(seed, at + 2, 17)),
+        _ => byte::signed(build::low(240 + draw(seed, at + 2, 33))),
+    };
+    Small { a: a, b: b, c: c }
+}
+
+// Up to 8 more or less.
+fn near(c: i64, more: u64) -> i64 {
+    byte::signed(byte::sum(build::low(build::bits(c)), 248 + more % 17))
 }
 
 // The c with which an equation holds at the point.

@@ -26,7 +26,7 @@ fn compared(b: &mut Buffer) -> Tally {
     let mut t = compare::nothing();
     let mut i: u64 = 0;
     while i < JOBS {
-        let length = random::write(b, i, 4, false);
+        let length = random::write(b, i, 4, false, 3);
         t = t.judge(compare::is_plain(b, length));
         i += 1;
     }
@@ -48,7 +48,7 @@ fn counted(b: &mut Buffer) -> Groups {
     };
     let mut i: u64 = 0;
     while i < JOBS {
-        random::write(b, i, 4, false);
+        random::write(b, i, 4, false, 3);
         g = g.with_groups(b);
         i += 1;
     }

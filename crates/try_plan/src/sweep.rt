@@ -31,7 +31,7 @@ fn compared(b: &mut Buffer, area: &mut Buffer, expected: &mut Buffer) -> u64 {
     let mut differ: u64 = 0;
     let mut i: u64 = 0;
     while i < JOBS {
-        let length = random::write(b, i, 5, true);
+        let length = random::write(b, i, 5, true, 4);
         if !is_right(i, length, search::find(b), b, area, expected) {
             differ = std::num::wrapping_add_u64(differ, 1);
         }
@@ -45,7 +45,7 @@ fn counted(b: &mut Buffer) -> Counts {
     let mut counts = kinds::none();
     let mut i: u64 = 0;
     while i < JOBS {
-        random::write(b, i, 5, true);
+        random::write(b, i, 5, true, 4);
         counts = counts.with(b, search::find(b));
         i += 1;
     }

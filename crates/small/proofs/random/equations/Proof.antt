@@ -5,13 +5,19 @@ use Rattle.small.proofs.random.equations.Statement.{statement}
 use Rattle.small.proofs.random.equations.Tie as tie
 
 abbrev Inv-loop : tie.InvT-loop
-Inv-loop b₀ n m seed k₀ b k = k ≤ m
+Inv-loop b₀ n m seed form k₀ b k = k ≤ m
 
 abbrev μ-loop : tie.MeasureT-loop
-μ-loop b₀ n m seed k₀ b k = m - k
+μ-loop b₀ n m seed form k₀ b k = m - k
 
 loop-holds : tie.Need-loop-holds Inv-loop μ-loop
 loop-holds c = search needs
+
+add-if1 : tie.Need-add-if1 Inv-loop μ-loop
+add-if1 c = search needs
+
+before-requires : tie.Need-before-requires Inv-loop μ-loop
+before-requires c κs = search needs
 
 row-requires : tie.Need-row-requires Inv-loop μ-loop
 row-requires c κs = search needs
@@ -38,6 +44,8 @@ equations-spec =
     Inv-loop
     μ-loop
     loop-holds
+    add-if1
+    before-requires
     row-requires
     equation-requires
     add-k
