@@ -23,10 +23,11 @@ groupIn groups i = getD groups i 0
 abbrev pub runIn : List Run → ℕ → Run
 runIn runs i = getD runs i empty
 
--- each run is that of a variable in a family, and, where every group has a fit-out, no family is empty
+-- each run is that of a variable in a family
 pub record Members (runs : List Run) (n : ℕ) : Type 0 where
   pub at : (i : ℕ) → i < n → FamilyRun (runIn runs i)
 
+-- and no family is empty, where every group has a fit-out
 pub record NoneEmpty (runs : List Run) (n : ℕ) : Type 0 where
   pub at : (i : ℕ) → i < n → 1 ≤ runIn runs i .many
 

@@ -11,7 +11,7 @@ ghost use Rattle.planner.specs.Choices.{Members, NoneEmpty, FirstEmpty, 
 use jobs::Variable;
 use runs::Run;
 
-/// A group without a fit, by its lowest variable.
+/// The first group without a fit, by its lowest variable, or that there is none.
 pub enum Found {
     At(u16),
     Nothing,

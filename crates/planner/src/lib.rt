@@ -47,6 +47,7 @@ pub enum Outcome {
     Planned(i64),
     /// No numbers fit; this is the lowest variable of the first group that has none.
     NoFit(u16),
+    /// The job is faulty or the answer area too short; nothing is written.
     Refused(Reason),
 }
 
