@@ -137,7 +137,7 @@ module _ (c : Job) (e : solutions c ≡ table (member c) (fits c)) where
   -- so where there is a member at all, the chosen one is the best solution, and its place is 01's chosen k
   module _ (some : 1 ≤ fits c) where
     pub choice-optimal : Optimal c (member c (choice (slope c) (fits c)))
-    choice-optimal = record { solution = member-solution (choice (slope c) (fits c)) (choice-below (slope c) (fits c) some); best = beats }
+    choice-optimal = record { solution = member-solution (choice (slope c) (fits c)) (choice-below (slope c) (fits c) some); beats = beats }
       where
         beats : (y : List ℤ) → IsSolution c y → (y ≡ member c (choice (slope c) (fits c))) ⊎ Better c (member c (choice (slope c) (fits c))) y
         beats y s = let (k, h, q) = solution-member y s in rw q (choice-beats k h)

@@ -190,7 +190,7 @@ module _ (j : Job) where
             go (yes q) =
                 let m = in-leads j l .1 (h, q) in
                 subst (λ z. (partOf j l y ≡ z) ⊎ Better (componentJob j l) z (partOf j l y)) (sym (part-assembled f l (o l m .solution)))
-                (o l m .best (partOf j l y) (part-solution j named l y s))
+                (o l m .beats (partOf j l y) (part-solution j named l y s))
             go (no d) = inl (part-nothing l y x d)
 
         -- no group of y is worth more
@@ -233,7 +233,7 @@ module _ (j : Job) where
             go (inl h) = let q = le-antisym (objective j x) (objective j y) h most in by-order q (among-level (sym q))
 
       pub assembled-optimal : Optimal j (assembled j f)
-      assembled-optimal = record { solution = assembled-solves; best = assembled-beats }
+      assembled-optimal = record { solution = assembled-solves; beats = assembled-beats }
 
     -- so where every group has a solution, `best` is what the groups' own `best` make
     pub best-assembled : ((l : ℕ) → l ∈ leads j → (x : List ℤ) × IsSolution (componentJob j l) x) → best j ≡ assembled j (λ l. best (componentJob j l))

@@ -145,8 +145,8 @@ better-compared j x y e = beats-compared (objective j) (go (compared x y e))
 -- x is the best of the list of solutions exactly when it is optimal
 best-iff : (j : Job) (x : List ℤ) → Best (objective j) Earlier (solutions j) x ↔ Optimal j x
 best-iff j x = (
-  λ b. record { solution = in-solutions j x .0 (b .member); best = λ y s. b .beats y (in-solutions j y .1 s) },
-  λ o. record { member = in-solutions j x .1 (o .solution); beats = λ y h. o .best y (in-solutions j y .0 h) },
+  λ b. record { solution = in-solutions j x .0 (b .member); beats = λ y s. b .beats y (in-solutions j y .1 s) },
+  λ o. record { member = in-solutions j x .1 (o .solution); beats = λ y h. o .beats y (in-solutions j y .0 h) },
 )
 
 -- where there is a solution at all, the best is one, and better than every other

@@ -67,7 +67,7 @@ Better j = Beats (objective j) Earlier
 -- x is a solution, and better than every other
 pub record Optimal (j : Job) (x : List ℤ) : Type 0 where
   pub solution : IsSolution j x
-  pub best : (y : List ℤ) → IsSolution j y → (y ≡ x) ⊎ Better j x y
+  pub beats : (y : List ℤ) → IsSolution j y → (y ≡ x) ⊎ Better j x y
 
 -- the first solution that no other exceeds in worth (proofs/Solutions.antt: where there is one, it is the optimal one)
 unfoldable pub best : Job → List ℤ
