@@ -15,7 +15,7 @@ use Rattle.runs.specs.declared.Run.{Run}
 use Rattle.jobs.specs.Job.{Job, jobOf}
 use Rattle.jobs.specs.Component.{sheetLength}
 use Rattle.jobs.specs.Faults.{Answer, accepted, checked}
-use Rattle.jobs.specs.Verdict.{Verdict, planned, noFit, refused, shortFor?, verdict}
+use Rattle.jobs.specs.Verdict.{Verdict, planned, noFit, refused, short?, verdict}
 use Rattle.jobs.specs.Sheet.{sheet}
 use Rattle.jobs.proofs.Faults.{accepted-none, fault-none}
 use Rattle.jobs.proofs.Outcomes.{too-short}
@@ -56,7 +56,7 @@ module _ (s : List ℕ) where
   module _ (ok : checked s ≡ accepted) (area : List ℕ) where
     by-model : sheetLength j ≤ length area → verdictBy s area ≡ modelVerdict
     unfolding verdictBy
-    by-model h = ap (λ o. outcomeBy o (emptyBy j g r) (worthBy j g r)) (fault-none s (shortFor? j area) (accepted-none s ok) (λ l. omega arith))
+    by-model h = ap (λ o. outcomeBy o (emptyBy j g r) (worthBy j g r)) (fault-none s (short? j area) (accepted-none s ok) (λ l. omega arith))
 
     long-enough : sheetLength j ≤ length area → (verdict s area ≡ modelVerdict) × (sheet s area ≡ modelBytes ++ drop (length modelBytes) area)
     unfolding sheetBy

@@ -1,11 +1,11 @@
 -- The second demand: base, steps and fits as they stand on a planned sheet give every solution of a group exactly once, and each
 -- variable's number stands at its group's chosen k.
 use mathlib.Core.Path.{_≡_, refl, sym, _∙_, ap, ap₂, subst}
-use mathlib.Core.Logic.{_↔_, _≢_}
+use mathlib.Core.Logic.{_↔_, _≢_, Iff·trans}
 use mathlib.Core.Bool.{cond}
 use mathlib.Core.Option.{none}
 use mathlib.Core.List.{List, _++_}
-use Prim.Native.Nat.{ℕ, _+_, _*_, _≤_, _<_}
+use Prim.Native.Nat.{ℕ, _*_, _≤_, _<_}
 use native.Mathlib.Decide.{ℕ-discrete}
 use lib.Dec.{eqb}
 use lib.ListN.{length, drop}
@@ -13,20 +13,20 @@ use borrow.Author.Tests.{eq-eqb, ne-eqb}
 use Rattle.ints.specs.Within.{Within}
 use Rattle.ints.proofs.{ℤ, pos, _+ℤ_, _*ℤ_, _<ℤ_, arith}
 use Rattle.lists.specs.Members.{_∈_}
-use Rattle.lists.specs.Table.{table}
 use Rattle.lists.proofs.Table.{table-at}
 use Rattle.runs.specs.Run.{bound}
-use Rattle.jobs.specs.Bytes.{u32, i64}
+use Rattle.jobs.specs.Bytes.{u16}
 use Rattle.jobs.specs.Job.{Job, jobOf}
 use Rattle.jobs.specs.Solution.{number, IsSolution, objective, best}
 use Rattle.jobs.specs.Component.{lowest, leads, component, sheetLength}
 use Rattle.jobs.specs.Family.{componentJob, fits, base, step, chosen, slope}
 use Rattle.jobs.specs.Verdict.{planned, firstWithout, verdict}
 use Rattle.jobs.specs.Sheet.{laidOut, sheet}
-use Rattle.jobs.specs.Demands.{numberOn, baseOn, stepOn, groupOn, fitsOn, chosenOn, gainOn, memberOn, FamilyOn, FamiliesOn, GivesFits}
+use Rattle.jobs.specs.Demands.{numberOn, baseOn, stepOn, groupOn, fitsOn, chosenOn, gainOn, partOn, memberOn, SolvesGroup, FamilyOn, FamiliesOn, GivesFits}
 use Rattle.jobs.proofs.Lawful.{LawfulJob}
 use Rattle.jobs.proofs.Components.{in-leads, lead-in, joined-iff, component-iff}
-use Rattle.jobs.proofs.Assembly.{none-without, component-length, outside-zero}
+use Rattle.jobs.proofs.Numbering.{lead-iff, group-is}
+use Rattle.jobs.proofs.Assembly.{none-without, component-length, outside-zero, solves-iff}
 use Rattle.jobs.proofs.Writing.{within-holds}
 use Rattle.jobs.proofs.Fields.{number-back, base-back, step-back, fits-back, chosen-back, gain-back, laidOut-back, if-planned}
 use Rattle.jobs.proofs.Promises.{optimal-best, number-within, planned-when, lawful-of, gives-fits}
@@ -34,7 +34,7 @@ use Rattle.families.specs.Family.{member, IsFamily, familyRun}
 use Rattle.families.proofs.Sizes.{first-within, step-within, many-within}
 use Rattle.families.proofs.Exact.{same-table, family-form, are-families}
 use Rattle.families.proofs.Choices.{choice-below, member-solution, solution-member, members-once}
-use Rattle.families.proofs.Wholes.{objective-own}
+use Rattle.families.proofs.Wholes.{objective-own, objective-inside}
 use Rattle.families.proofs.Plans.{choice-in, best-at}
 use Rattle.families.proofs.Planned.{gain-by, gain-within}
 
@@ -71,7 +71,7 @@ module _ (j : Job) (lawful : LawfulJob j) (full : firstWithout j ≡ none) (w : 
     step-on = step-back j (best j) w rest i h (step-within (family-form j lawful i h))
 
     group-on : groupOn after i ≡ component j i
-    group-on = laidOut-back j (best j) w rest (omega (arith, lawful .variables)) .group i h
+    group-on = let f = laidOut-back j (best j) w rest (omega (arith, lawful .variables)) .groups in group-is j (u16 after 6) (groupOn after) f i h
 
     fits-small : fits (own i) ≤ 2000000001
     fits-small = many-within (family-form j lawful i h)
@@ -108,15 +108,15 @@ module _ (j : Job) (lawful : LawfulJob j) (full : firstWithout j ≡ none) (w : 
     family : IsFamily j l
     family = are-families j lawful l m
 
-    -- the fields of its row, as its own job reads them
-    own-fits : fitsOn c after g ≡ fits c
-    own-fits = ap (λ n. u32 after (24 + 16 * n + 16 * g)) (component-length j l) ∙ fits-on l below ∙ ap (λ k. fits (componentJob j k)) self
+    -- the fields of its row
+    own-fits : fitsOn j after g ≡ fits c
+    own-fits = fits-on l below ∙ ap (λ k. fits (componentJob j k)) self
 
-    own-chosen : chosenOn c after g ≡ chosen c
-    own-chosen = ap (λ n. u32 after (24 + 16 * n + 16 * g + 4)) (component-length j l) ∙ chosen-on l below ∙ ap (λ k. chosen (componentJob j k)) self
+    own-chosen : chosenOn j after g ≡ chosen c
+    own-chosen = chosen-on l below ∙ ap (λ k. chosen (componentJob j k)) self
 
-    own-gain : gainOn c after g ≡ slope c
-    own-gain = ap (λ n. i64 after (24 + 16 * n + 16 * g + 8)) (component-length j l) ∙ gain-on l below ∙ ap (λ k. slope (componentJob j k)) self
+    own-gain : gainOn j after g ≡ slope c
+    own-gain = gain-on l below ∙ ap (λ k. slope (componentJob j k)) self
 
     -- its variables
     inside : (i : ℕ) → i < n → (groupOn after i ≡ g) ↔ (lowest j i ≡ l)
@@ -131,61 +131,71 @@ module _ (j : Job) (lawful : LawfulJob j) (full : firstWithout j ≡ none) (w : 
     own-step : (i : ℕ) → i < n → lowest j i ≡ l → stepOn after i ≡ number (step c) i
     own-step i h e = step-on i h ∙ ap (λ k. number (step (componentJob j k)) i) e
 
+    -- what the sheet has in the group, and 0 elsewhere
+    module _ (f : ℕ → ℤ) where
+      part-at : (i : ℕ) → i < n → number (partOn j after g f) i ≡ cond (eqb (groupOn after i) g) (f i) (pos 0)
+      part-at i h = table-at (λ i. cond (eqb (groupOn after i) g) (f i) (pos 0)) n i (pos 0) h
+
+      part-in : (i : ℕ) → i < n → lowest j i ≡ l → number (partOn j after g f) i ≡ f i
+      part-in i h e = part-at i h ∙ ap (λ t. cond t (f i) (pos 0)) (eq-eqb (groupOn after i) g (inside i h .1 e))
+
+      part-out : (i : ℕ) → i < n → lowest j i ≢ l → number (partOn j after g f) i ≡ pos 0
+      part-out i h d = part-at i h ∙ ap (λ t. cond t (f i) (pos 0)) (ne-eqb (groupOn after i) g (λ q. d (inside i h .0 q)))
+
     -- so its members are those of the sheet
-    member-on : (k : ℕ) → k < fits c → memberOn c after g k ≡ member c k
-    member-on k h = same-table (pos 0) shown told refl (λ i b. at i (omega (arith, b, component-length j l)) (ℕ-discrete (lowest j i) l))
+    member-on : (k : ℕ) → k < fits c → memberOn j after g k ≡ member c k
+    member-on k h = same-table (pos 0) (λ i. cond (eqb (groupOn after i) g) (shown i) (pos 0)) told (sym (component-length j l)) (λ i b. sym (part-at shown i b) ∙ at i b (ℕ-discrete (lowest j i) l))
       where
         shown : ℕ → ℤ
-        shown i = cond (eqb (groupOn after i) g) (baseOn after i +ℤ stepOn after i *ℤ pos k) (pos 0)
+        shown i = baseOn after i +ℤ stepOn after i *ℤ pos k
 
         told : ℕ → ℤ
         told i = number (base c) i +ℤ number (step c) i *ℤ pos k
 
-        at : (i : ℕ) → i < n → Dec (lowest j i ≡ l) → shown i ≡ told i
-        at i b (yes e) =
-            ap (λ t. cond t (baseOn after i +ℤ stepOn after i *ℤ pos k) (pos 0)) (eq-eqb (groupOn after i) g (inside i b .1 e))
-            ∙ ap₂ (λ u v. u +ℤ v *ℤ pos k) (own-base i b e) (own-step i b e)
+        at : (i : ℕ) → i < n → Dec (lowest j i ≡ l) → number (partOn j after g shown) i ≡ told i
+        at i b (yes e) = part-in shown i b e ∙ ap₂ (λ u v. u +ℤ v *ℤ pos k) (own-base i b e) (own-step i b e)
         at i b (no d) =
-            ap (λ t. cond t (baseOn after i +ℤ stepOn after i *ℤ pos k) (pos 0)) (ne-eqb (groupOn after i) g (λ q. d (inside i b .0 q)))
+            part-out shown i b d
             ∙ sym (outside-zero j l (member c k) (member-solution c (family .all) k h) i b d)
             ∙ table-at told (length (c .variables)) i (pos 0) (omega (arith, b, component-length j l))
 
-    family-on : FamilyOn (componentJob j l) l (component j l) after
+    family-on : FamilyOn j l (component j l) after
     family-on = record { all = all; once = once; rises = rises; rests = rests; chosen = place; gain = gain }
       where
-        small : (k : ℕ) → k < fitsOn c after g → k < fits c
+        small : (k : ℕ) → k < fitsOn j after g → k < fits c
         small k h = omega (arith, h, own-fits)
 
-        all : (x : List ℤ) → IsSolution c x ↔ ((k : ℕ) × ((k < fitsOn c after g) × (x ≡ memberOn c after g k)))
-        all x = (
+        all : (x : List ℤ) → SolvesGroup j l x ↔ ((k : ℕ) × ((k < fitsOn j after g) × (x ≡ memberOn j after g k)))
+        all x = Iff·trans (solves-iff j l self x) (
           λ s. let (k, h, q) = solution-member c (family .all) x s in (k, (omega (arith, h, own-fits), q ∙ sym (member-on k h))),
           λ (k, h). let b = small k (h .0) in subst (IsSolution c) (sym (h .1 ∙ member-on k b)) (member-solution c (family .all) k b),
         )
 
-        once : (k k′ : ℕ) → k < fitsOn c after g → k′ < fitsOn c after g → memberOn c after g k ≡ memberOn c after g k′ → k ≡ k′
+        once : (k k′ : ℕ) → k < fitsOn j after g → k′ < fitsOn j after g → memberOn j after g k ≡ memberOn j after g k′ → k ≡ k′
         once k k′ h h′ q =
             members-once c (family .all) k k′ (small k h) (small k′ h′) (sym (member-on k (small k h)) ∙ q ∙ member-on k′ (small k′ h′))
 
-        rises : 2 ≤ fitsOn c after g → pos 0 <ℤ stepOn after l
+        rises : 2 ≤ fitsOn j after g → pos 0 <ℤ stepOn after l
         rises h = subst (λ x. pos 0 <ℤ x) (sym (own-step l below self)) (family .rises (omega (arith, h, own-fits)))
 
-        rests : fitsOn c after g ≡ 1 → (i : ℕ) → i < length (c .variables) → groupOn after i ≡ g → stepOn after i ≡ pos 0
-        rests e i h q =
-            let b : i < n = omega (arith, h, component-length j l) in
-            own-step i b (inside i b .0 q) ∙ family .rests (omega (arith, e, own-fits)) i
+        rests : fitsOn j after g ≡ 1 → (i : ℕ) → i < n → groupOn after i ≡ g → stepOn after i ≡ pos 0
+        rests e i b q = own-step i b (inside i b .0 q) ∙ family .rests (omega (arith, e, own-fits)) i
 
-        place : chosenOn c after g < fitsOn c after g
+        place : chosenOn j after g < fitsOn j after g
         place = omega (arith, own-chosen, own-fits, chosen-below l m)
 
-        gain : gainOn c after g ≡ objective c (table (stepOn after) (length (c .variables)))
+        gain : gainOn j after g ≡ objective j (partOn j after g (stepOn after))
         gain =
             own-gain ∙ slope-is c
             ∙ objective-own j l (step c) (stepOn after) (λ i h e. sym (own-step i h e))
-            ∙ sym (objective-own j l (table (stepOn after) (length (c .variables))) (stepOn after)
-            (λ i h e. table-at (stepOn after) (length (c .variables)) i (pos 0) (omega (arith, h, component-length j l))))
+            ∙ sym (objective-own j l (partOn j after g (stepOn after)) (stepOn after) (part-in (stepOn after)))
+            ∙ sym (objective-inside j l (partOn j after g (stepOn after)) (part-out (stepOn after)))
 
   families-laid : FamiliesOn j after
-  families-laid = record { number = number-is; families = family-on }
+  families-laid = record {
+    number = number-is;
+    families = λ l h. subst (λ g. FamilyOn j l g after) (sym (group-on l (h .variable))) (family-on l (lead-iff j l .0 h));
+  }
     where
       number-is : (i : ℕ) → i < n → numberOn after i ≡ baseOn after i +ℤ stepOn after i *ℤ pos (chosenOn j after (groupOn after i))
       number-is i h =

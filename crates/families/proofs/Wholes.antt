@@ -103,6 +103,24 @@ module _ (j : Job) where
               ∙ sym (ap (λ m. pick (eqb m l) (weigh f i)) q ∙ pick-yes l (weigh f i))
           go (no d) = ap (λ v. v .weight *ℤ number x i) (variable-outside j l i h d) ∙ nothing (number x i) ∙ sym (pick-no (lowest j i) l (weigh f i) d)
 
+  -- and of a list that is 0 outside the group it is that of the job
+  pub objective-inside : (l : ℕ) (x : List ℤ) → ((i : ℕ) → i < length (j .variables) → lowest j i ≢ l → number x i ≡ pos 0) → objective j x ≡ objective (componentJob j l) x
+  unfolding objective
+  objective-inside l x zero = sum-ext n (weigh (number x)) own each ∙ ap (λ m. sum m own) (sym (component-length j l))
+    where
+      own : ℕ → ℤ
+      own i = variable (componentJob j l) i .weight *ℤ number x i
+
+      nothing : (s t z : ℤ) → z ≡ pos 0 → s *ℤ z ≡ t *ℤ z
+      nothing s t z e = rw e (lin₀ (s ∷ t ∷ []) (search facts depth 20) (omega arith))
+
+      each : (i : ℕ) → i < n → weigh (number x) i ≡ own i
+      each i h = go (ℕ-discrete (lowest j i) l)
+        where
+          go : Dec (lowest j i ≡ l) → weigh (number x) i ≡ own i
+          go (yes q) = ap (λ v. v .weight *ℤ number x i) (sym (variable-inside j l i h q))
+          go (no d) = nothing (variable j i .weight) (variable (componentJob j l) i .weight) (number x i) (zero i h d)
+
   by-labels : (x : List ℤ) → objective j x ≡ sum n (λ l. sumOf (lowest j) l n (weigh (number x)))
   unfolding objective
   by-labels x = regroup (lowest j) n n (weigh (number x)) (λ i h. omega (arith, lowest-le j i))

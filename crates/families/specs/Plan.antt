@@ -18,7 +18,7 @@ use Rattle.jobs.specs.Decide.{equal?, firstOf}
 use Rattle.jobs.specs.Job.{Job, jobOf, variable}
 use Rattle.jobs.specs.Component.{leads}
 use Rattle.jobs.specs.Faults.{firstBroken}
-use Rattle.jobs.specs.Verdict.{Verdict, planned, noFit, refused, shortFor?}
+use Rattle.jobs.specs.Verdict.{Verdict, planned, noFit, refused, short?}
 use Rattle.jobs.specs.Sheet.{answerMark}
 use Rattle.families.specs.Family.{choice}
 use Rattle.families.specs.Model.{groupAt, runAt, families}
@@ -94,7 +94,7 @@ unfolding firstBroken jobOf leads families emptyBy worthBy
 verdictBy s area =
     let j = jobOf s in
     let t = families j in
-    outcomeBy (firstBroken (shortFor? j area) s) (emptyBy j (groupAt t) (runAt t)) (worthBy j (groupAt t) (runAt t))
+    outcomeBy (firstBroken (short? j area) s) (emptyBy j (groupAt t) (runAt t)) (worthBy j (groupAt t) (runAt t))
 
 abbrev pub written : Verdict → List ℕ → List ℕ → List ℕ
 written (planned worth) sheet area = sheet ++ drop (length sheet) area

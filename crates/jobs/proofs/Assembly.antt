@@ -21,10 +21,11 @@ use Rattle.lists.proofs.Keep.{in-keep}
 use Rattle.lists.proofs.Table.{length-table, table-at}
 use Rattle.jobs.specs.Job.{Variable, Equation, Job, variable, equation, noVariable, noEquation}
 use Rattle.jobs.specs.Solution.{number, value, IsSolution, solutions, best}
-use Rattle.jobs.specs.Component.{forth, lowest, leads}
+use Rattle.jobs.specs.Component.{forth, Joined, lowest, leads}
 use Rattle.jobs.specs.Family.{componentJob, fits}
 use Rattle.jobs.specs.Decide.{equal?}
 use Rattle.jobs.specs.Verdict.{firstWithout}
+use Rattle.jobs.specs.Demands.{SolvesGroup}
 use Rattle.jobs.proofs.Firsts.{first-iff, none-holds}
 use Rattle.jobs.proofs.Solutions.{in-solutions, none-iff, best-is}
 use Rattle.jobs.proofs.Components.{chain-edge, joined-iff, rising-leads, lead-in}
@@ -76,6 +77,51 @@ module _ (j : Job) where
       λ (m, t). (m, eqb-true (lowest j (e .left)) l t),
       λ (m, q). (m, eq-eqb (lowest j (e .left)) l q),
     )
+
+    -- ---- a solution of it is a solution of the group, as document 01 says
+    module _ (self : lowest j l ≡ l) (x : List ℤ) where
+      inside-iff : (i : ℕ) → Joined j l i ↔ (lowest j i ≡ l)
+      inside-iff i = (λ s. sym (joined-iff j l i .0 s) ∙ self, λ e. joined-iff j l i .1 (self ∙ sym e))
+
+      solves : IsSolution (componentJob j l) x → SolvesGroup j l x
+      solves s = record {
+        long = s .long ∙ component-length;
+        low = λ i h q. within i h q .0;
+        high = λ i h q. within i h q .1;
+        holds = each-iff (λ e. Joined j l (e .left) → value e x ≡ e .c) (j .equations) noEquation .1 tie;
+        elsewhere = λ i h n. outside-zero x s i h (λ e. n (inside-iff i .1 e));
+      }
+        where
+          within : (i : ℕ) → i < length (j .variables) → Joined j l i → Between (variable j i) (number x i)
+          within i h q =
+              let b : i < length (componentJob j l .variables) = omega (arith, component-length) in
+              between (sym (variable-inside i h (inside-iff i .0 q))) refl (s .low i b, s .high i b)
+
+          tie : (e : Equation) → e ∈ j .equations → Joined j l (e .left) → value e x ≡ e .c
+          tie e m q = holds-iff (componentJob j l .equations) x .0 (s .holds) e (in-equations e .1 (m, inside-iff (e .left) .0 q))
+
+      solved : SolvesGroup j l x → IsSolution (componentJob j l) x
+      solved s = record {
+        long = s .long ∙ sym component-length;
+        low = λ i h. within i (omega (arith, component-length)) .0;
+        high = λ i h. within i (omega (arith, component-length)) .1;
+        holds = holds-iff (componentJob j l .equations) x .1 tie;
+      }
+        where
+          within : (i : ℕ) → i < length (j .variables) → Between (variable (componentJob j l) i) (number x i)
+          within i h = go (ℕ-discrete (lowest j i) l)
+            where
+              go : Dec (lowest j i ≡ l) → Between (variable (componentJob j l) i) (number x i)
+              go (yes e) = let q = inside-iff i .1 e in between (variable-inside i h e) refl (s .low i h q, s .high i h q)
+              go (no d) = between (variable-outside i h d) (s .elsewhere i h (λ q. d (inside-iff i .0 q))) (≤ℤ-refl (pos 0), ≤ℤ-refl (pos 0))
+
+          tie : (e : Equation) → e ∈ componentJob j l .equations → value e x ≡ e .c
+          tie e m =
+              let (k, q) = in-equations e .0 m in
+              each-iff (λ e. Joined j l (e .left) → value e x ≡ e .c) (j .equations) noEquation .0 (s .holds) e k (inside-iff (e .left) .1 q)
+
+      pub solves-iff : SolvesGroup j l x ↔ IsSolution (componentJob j l) x
+      solves-iff = (solved, solves)
 
   -- both variables of an equation are in one group
   pub one-group : (e : Equation) → e ∈ j .equations → lowest j (e .left) ≡ lowest j (e .right)

@@ -43,6 +43,21 @@ by-row r t e h = later (ap pos e) (now (pos-below h))
 by-number : (r t : Reason) → placeOf r ≡ placeOf t → rowOf r ≡ rowOf t → numberOf r < numberOf t → Before r t
 by-number r t e f h = later (ap pos e) (later (ap pos f) (now (pos-below h)))
 
+-- ---- what it is for the area to be too short may be said in another way
+broken-by : {P Q : Type 0} → (P → Q) → (s : List ℕ) (r : Reason) → Broken P s r → Broken Q s r
+broken-by f s ShortJob b = b
+broken-by f s WrongMark b = b
+broken-by f s TooMany b = b
+broken-by f s WrongHeader b = b
+broken-by f s (VariableRange i) b = b
+broken-by f s (EquationVariables k) b = b
+broken-by f s (EquationRange k) b = b
+broken-by f s ShortArea b = f b
+broken-by f s WrongArgument b = b
+
+pub first-by : {P Q : Type 0} → P ↔ Q → (s : List ℕ) (r : Reason) → IsFirst P s r → IsFirst Q s r
+first-by (f, g) s r h = record { broken = broken-by f s r (h .broken); none-before = λ t b k. h .none-before t b (broken-by g s t k) }
+
 -- ---- the checks stand in the order of the table
 placed : (test : ℕ → Bool) (xs : List Reason) → every (λ r. test (placeOf r)) xs ≡ true → (r : Reason) → r ∈ xs → test (placeOf r) ≡ true
 placed test xs e r m = every-iff (λ r. test (placeOf r)) xs .0 e r m

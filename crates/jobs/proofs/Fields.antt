@@ -20,6 +20,7 @@ use Rattle.jobs.specs.Sheet.{header, variableFields, componentFields, la
 use Rattle.jobs.specs.Demands.{worthOn, numberOn, baseOn, stepOn, fitsOn, chosenOn, gainOn, LaidOut}
 use Rattle.jobs.proofs.Writing.{Holds, within-holds, unsigned-first, unsigned-past, unsigned-part, unsigned-bytesOf, signed-field}
 use Rattle.jobs.proofs.Components.{length-leads, component-below, component-lead}
+use Rattle.jobs.proofs.Numbering.{numbered-by}
 
 -- ---- how long each part is: the widths of its fields are numerals, so this computes
 pub length-header : (j : Job) (w : ℤ) → length (header j w) ≡ 24
@@ -169,10 +170,12 @@ module _ (j : Job) (x : List ℤ) (w : ℤ) where
     laidOut-back h = record {
       mark = refl;
       variables = header-back 2 (length (j .variables)) 4 (omega arith) refl (omega arith);
-      groups = header-back 2 (componentCount j) 6 (omega arith) refl (omega (arith, length-leads j));
       variable-rows = header-back 4 24 8 (omega arith) refl (omega arith);
       group-rows = header-back 4 (groupRows j) 12 (omega arith) refl (omega arith);
-      group = λ i m. variable-back 2 (component j i) i 12 m (omega arith) refl (omega (arith, component-below j i m, length-leads j));
+      groups =
+          numbered-by j _ _ (header-back 2 (componentCount j) 6 (omega arith) refl (omega (arith, length-leads j))) (
+          λ i m. variable-back 2 (component j i) i 12 m (omega arith) refl (omega (arith, component-below j i m, length-leads j))
+          );
       zero = λ i m. variable-back 2 0 i 14 m (omega arith) refl (omega arith);
     }
 

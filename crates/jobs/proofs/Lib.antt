@@ -17,6 +17,8 @@ pub mod Lawful
 pub mod Solutions
 -- groups: what joins variables, and how groups are numbered
 pub mod Components
+-- groups by document 01's sentence, and by the functions that compute
+pub mod Numbering
 -- from groups to the whole job and back
 pub mod Assembly
 -- where the best stands among the solutions

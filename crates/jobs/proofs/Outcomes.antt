@@ -10,7 +10,7 @@ use Rattle.jobs.specs.Job.{Job, jobOf}
 use Rattle.jobs.specs.Solution.{objective, best}
 use Rattle.jobs.specs.Component.{sheetLength}
 use Rattle.jobs.specs.Faults.{accepted, refused as turned, checked}
-use Rattle.jobs.specs.Verdict.{planned, noFit, refused, firstWithout, outcome, shortFor?, verdict}
+use Rattle.jobs.specs.Verdict.{planned, noFit, refused, firstWithout, outcome, short?, verdict}
 use Rattle.jobs.specs.Sheet.{laidOut, sheet}
 use Rattle.jobs.proofs.Faults.{fault-checked, fault-short, fault-none, accepted-none, refused-some}
 use Rattle.jobs.proofs.Fields.{if-planned, if-noFit, if-refused}
@@ -28,16 +28,16 @@ module _ (s area : List ℕ) where
   as-checked p q e = (v, if-refused s area v)
     where
       v : verdict s area ≡ refused p q
-      v = let (r, h) = refused-some s p q e in by-fault (fault-checked s (shortFor? j area) r (h .0)) ∙ ap₂ refused (h .1 .0) (h .1 .1)
+      v = let (r, h) = refused-some s p q e in by-fault (fault-checked s (short? j area) r (h .0)) ∙ ap₂ refused (h .1 .0) (h .1 .1)
 
   module _ (ok : checked s ≡ accepted) where
     -- it accepts, and the area is too short
     pub too-short : length area < sheetLength (jobOf s) → (verdict s area ≡ refused 8 0) × (sheet s area ≡ area)
-    too-short h = let v : verdict s area ≡ refused 8 0 = by-fault (fault-short s (shortFor? j area) (accepted-none s ok) h) in (v, if-refused s area v)
+    too-short h = let v : verdict s area ≡ refused 8 0 = by-fault (fault-short s (short? j area) (accepted-none s ok) h) in (v, if-refused s area v)
 
     module _ (room : sheetLength (jobOf s) ≤ length area) where
       sound : fault s area ≡ none
-      sound = fault-none s (shortFor? j area) (accepted-none s ok) (λ h. omega (arith, h, room))
+      sound = fault-none s (short? j area) (accepted-none s ok) (λ h. omega (arith, h, room))
 
       -- a group has no solution
       pub no-fit : (l : ℕ) → firstWithout (jobOf s) ≡ some l → (verdict s area ≡ noFit l) × (sheet s area ≡ area)

@@ -1,10 +1,10 @@
 -- What the definitions `verdict` and `sheet` keep of the demands: the first and the third, and of the second all but the
 -- families of a planned sheet, `FamiliesOn`.
 use mathlib.Core.Path.{_≡_, refl, sym, _∙_, ap, ap₂, subst}
-use mathlib.Core.Logic.{_↔_}
+use mathlib.Core.Logic.{_↔_, _⊎_, inl, inr, ⊎-elim, Iff·symm}
 use mathlib.Core.Option.{Option, none, some}
 use mathlib.Core.List.{List, [], _++_}
-use Prim.Native.Nat.{ℕ, _*_, _≤_, _<_}
+use Prim.Native.Nat.{ℕ, _+_, _*_, _≤_, _<_}
 use lib.ListN.{length, drop}
 use Rattle.reasons.specs.declared.Reason.{Reason}
 use Rattle.reasons.specs.declared.Reason.the-variants.{ShortArea}
@@ -18,19 +18,21 @@ use Rattle.lists.proofs.Sums.{sum-within}
 use Rattle.runs.specs.Run.{bound}
 use Rattle.jobs.specs.Job.{Job, jobOf, variable}
 use Rattle.jobs.specs.Solution.{number, IsSolution, objective, Optimal, best}
-use Rattle.jobs.specs.Component.{leads, sheetLength}
+use Rattle.jobs.specs.Component.{lowest, leads, groupRows, sheetLength}
 use Rattle.jobs.specs.Family.{componentJob}
 use Rattle.jobs.specs.Table.{ShortFor, IsFirst}
 use Rattle.jobs.specs.Faults.{firstBroken}
-use Rattle.jobs.specs.Verdict.{Verdict, planned, noFit, refused, firstWithout, outcome, shortFor?, verdict}
+use Rattle.jobs.specs.Verdict.{Verdict, planned, noFit, refused, firstWithout, outcome, short?, verdict}
 use Rattle.jobs.specs.Sheet.{laidOut, sheet}
-use Rattle.jobs.specs.Demands.{worthOn, numberOn, numbersOn, TurnsAway, LaidOut, NoneFits, CannotBeBettered, FamiliesOn, GivesFits}
-use Rattle.jobs.proofs.Faults.{reported-iff, sound-iff}
+use Rattle.jobs.specs.Demands.{worthOn, numberOn, numbersOn, TurnsAway, LaidOut, NoneFits, CannotBeBettered, FamiliesOn, Passes, GivesFits}
+use Rattle.jobs.proofs.Faults.{first-by, reported-iff, sound-iff}
 use Rattle.jobs.proofs.Lawful.{LawfulJob, lawful-named, lawful, lawful-job}
 use Rattle.jobs.proofs.Writing.{within-holds}
 use Rattle.jobs.proofs.Fields.{number-back, worth-back, laidOut-back, if-planned, if-noFit, if-refused, length-sheet, drop-sheet}
 use Rattle.jobs.proofs.Solutions.{best-is}
-use Rattle.jobs.proofs.Assembly.{some-iff, fits-iff, fits-some, all-fit, without-iff}
+use Rattle.jobs.proofs.Components.{in-leads}
+use Rattle.jobs.proofs.Numbering.{lead-iff, groups-are, short-iff}
+use Rattle.jobs.proofs.Assembly.{solves-iff, some-iff, fits-iff, fits-some, all-fit, without-iff}
 
 -- ---- what is behind each verdict
 -- a case of a verdict is no other case, and says what it says
@@ -78,10 +80,13 @@ module _ (j : Job) (f : LawfulJob j) where
   none-fits : (l : ℕ) → firstWithout j ≡ some l → NoneFits j l
   none-fits l e = let (m, h) = without-iff j l .0 e in let (z, b) = h in record {
     none = λ x s. let (y, t) = groups-iff .0 (x, s) l m in fits-iff (componentJob j l) .0 z y t;
-    group = m;
-    without = fits-iff (componentJob j l) .0 z;
-    first = λ i k h. fits-some (componentJob j i) (b i k h);
+    group = lead-iff j l .1 m;
+    without = λ x s. fits-iff (componentJob j l) .0 z x (solves-iff j l (self l m) x .0 s);
+    first = λ i k h. let d = lead-iff j i .0 k in let (x, s) = fits-some (componentJob j i) (b i d h) in (x, solves-iff j i (self i d) x .1 s);
   }
+    where
+      self : (i : ℕ) → i ∈ leads j → lowest j i ≡ i
+      self i m = in-leads j i .0 m .1
 
   -- the numbers and the worth of a solution fit their fields
   module _ (x : List ℤ) (s : IsSolution j x) where
@@ -111,7 +116,7 @@ module _ (j : Job) (f : LawfulJob j) where
 
 module _ (s area : List ℕ) where
   abbrev pub fault : Option Reason
-  fault = firstBroken (shortFor? (jobOf s) area) s
+  fault = firstBroken (short? (jobOf s) area) s
 
   pub verdict-is : verdict s area ≡ outcome (jobOf s) fault (firstWithout (jobOf s))
   unfolding verdict
@@ -126,30 +131,34 @@ module _ (s area : List ℕ) where
   refused-when : (p q : ℕ) → verdict s area ≡ refused p q → (r : Reason) × ((fault ≡ some r) × ((numberOf r ≡ p) × (rowOf r ≡ q)))
   refused-when p q e = was-refused (jobOf s) fault (firstWithout (jobOf s)) p q (subst (λ v. IsRefused v p q) (sym e ∙ verdict-is) (refl, refl))
 
+  -- what is reported is what is found first
+  pub reported : (r : Reason) → IsFirst (ShortFor (jobOf s) area) s r → fault ≡ some r
+  reported r h = reported-iff s (short? (jobOf s) area) r .1 (first-by (Iff·symm (short-iff (jobOf s) area)) s r h)
+
   -- ---- the first demand
   pub turns-away : TurnsAway s area (verdict s area) (sheet s area)
   turns-away = record {
     exactly = λ p q. (to p q, from p q);
     untouched = λ p q e. if-refused s area e;
     inside = length-sheet s area long;
-    rest = drop-sheet s area;
+    rest = λ g group f. subst (λ g. drop (groupRows (jobOf s) + 16 * g) (sheet s area) ≡ drop (groupRows (jobOf s) + 16 * g) area) (sym (groups-are (jobOf s) g group f)) (drop-sheet s area);
   }
     where
       to : (p q : ℕ) → verdict s area ≡ refused p q → (r : Reason) × ((numberOf r ≡ p) × ((rowOf r ≡ q) × IsFirst (ShortFor (jobOf s) area) s r))
-      to p q e = let (r, h) = refused-when p q e in (r, (h .1 .0, (h .1 .1, reported-iff s (shortFor? (jobOf s) area) r .0 (h .0))))
+      to p q e = let (r, h) = refused-when p q e in (r, (h .1 .0, (h .1 .1, first-by (short-iff (jobOf s) area) s r (reported-iff s (short? (jobOf s) area) r .0 (h .0)))))
 
       from : (p q : ℕ) → (r : Reason) × ((numberOf r ≡ p) × ((rowOf r ≡ q) × IsFirst (ShortFor (jobOf s) area) s r)) → verdict s area ≡ refused p q
       from p q (r, h) =
           verdict-is
-          ∙ ap (λ o. outcome (jobOf s) o (firstWithout (jobOf s))) (reported-iff s (shortFor? (jobOf s) area) r .1 (h .1 .1))
+          ∙ ap (λ o. outcome (jobOf s) o (firstWithout (jobOf s))) (reported r (h .1 .1))
           ∙ ap₂ refused (h .0) (h .1 .0)
 
       long : (w : ℤ) → verdict s area ≡ planned w → sheetLength (jobOf s) ≤ length area
-      long w e = let h : ¬ (length area < sheetLength (jobOf s)) = sound-iff s (shortFor? (jobOf s) area) .0 (planned-when w e .0) ShortArea in omega arith
+      long w e = let h : ¬ (length area < sheetLength (jobOf s)) = sound-iff s (short? (jobOf s) area) .0 (planned-when w e .0) ShortArea in omega arith
 
   -- ---- the third demand
   pub lawful-of : fault ≡ none → LawfulJob (jobOf s)
-  lawful-of e = lawful-job s (lawful (shortFor? (jobOf s) area) s e)
+  lawful-of e = lawful-job s (lawful (short? (jobOf s) area) s e)
 
   module _ (w : ℤ) (e : verdict s area ≡ planned w) where
     optimal-of : Optimal (jobOf s) (best (jobOf s))
@@ -190,6 +199,20 @@ module _ (s area : List ℕ) where
   pub no-fit-only : (l : ℕ) → verdict s area ≡ noFit l → NoneFits (jobOf s) l × (sheet s area ≡ area)
   no-fit-only l e = let (o, h) = noFit-when l e in (none-fits (jobOf s) (lawful-of o) l h, if-noFit s area e)
 
+  -- a job that is not turned away is planned or has no fit
+  either : Passes s area → ((w : ℤ) × (verdict s area ≡ planned w)) ⊎ ((l : ℕ) × (verdict s area ≡ noFit l))
+  either p = go (verdict s area) refl
+    where
+      go : (v : Verdict) → verdict s area ≡ v → ((w : ℤ) × (verdict s area ≡ planned w)) ⊎ ((l : ℕ) × (verdict s area ≡ noFit l))
+      go (planned w) e = inl (w, e)
+      go (noFit l) e = inr (l, e)
+      go (refused reason row) e = absurd (p reason row (turns-away .exactly reason row .0 e))
+
   -- so of the second only the families are left
   pub gives-fits : ((w : ℤ) → verdict s area ≡ planned w → FamiliesOn (jobOf s) (sheet s area)) → GivesFits s area (verdict s area) (sheet s area)
-  gives-fits f = record { given = λ w e. (given-solution w e, (laid-out w e, f w e)); no-fit = no-fit-only }
+  gives-fits f = record {
+    answered = either;
+    exists = λ p x h. ⊎-elim (λ d. d) (λ (l, e). absurd (no-fit-only l e .0 .none x h)) (either p);
+    given = λ w e. (given-solution w e, (laid-out w e, f w e));
+    no-fit = no-fit-only;
+  }

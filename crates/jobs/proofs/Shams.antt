@@ -1,7 +1,7 @@
 -- Document 01, "Wrong plans on the frame": the sham planners, nearest to passing first, and of each that it breaks the demand that
 -- is named beside it. Where a theorem is about one job, that job alone refuses the sham.
 use mathlib.Core.Path.{_≡_, refl, sym, _∙_, ap}
-use mathlib.Core.Logic.{_≢_}
+use mathlib.Core.Logic.{_≢_, ⊎-elim}
 use mathlib.Core.Option.{none, some, Option·none-ne-some, Option·some-injective}
 use mathlib.Core.List.{List, [], _∷_, _++_, map}
 use Prim.Native.Nat.{ℕ, _+_, _*_, _≤_, _<_}
@@ -9,25 +9,26 @@ use lib.ListN.{length, take}
 use Rattle.reasons.specs.declared.Reason.{Reason}
 use Rattle.reasons.specs.Numbers.{numberOf, rowOf}
 use Rattle.ints.proofs.{ℤ, pos, negsuc, _+ℤ_, _*ℤ_, arith, lin, _&_, facts}
-use Rattle.lists.specs.Members.{_∈_}
 use Rattle.lists.specs.Table.{table}
 use Rattle.lists.proofs.Rising.{rising-distinct, same-length}
 use Rattle.lists.proofs.Table.{in-table, rising-table, length-table, table-at}
 use Rattle.lists.proofs.Lexicographic.{lower-asym}
-use Rattle.jobs.specs.Bytes.{unsigned, u32}
+use Rattle.jobs.specs.Bytes.{unsigned}
 use Rattle.jobs.specs.Job.{Job, jobOf, variable}
 use Rattle.jobs.specs.Solution.{number, IsSolution, best}
-use Rattle.jobs.specs.Component.{lowest, leads, component, sheetLength}
+use Rattle.jobs.specs.Component.{Joined, IsLead, lowest, leads, sheetLength}
 use Rattle.jobs.specs.Family.{componentJob, fits, base}
 use Rattle.jobs.specs.Faults.{accepted, refused as turned, checked}
-use Rattle.jobs.specs.Verdict.{planned, noFit, refused, firstWithout, shortFor?}
+use Rattle.jobs.specs.Verdict.{planned, noFit, refused, firstWithout, short?}
 use Rattle.jobs.specs.Sheet.{answerMark}
-use Rattle.jobs.specs.Demands.{numberOn, fitsOn, numbersOn, memberOn, TurnsAway, FamilyOn, GivesFits, CannotBeBettered}
+use Rattle.jobs.specs.Demands.{numberOn, groupOn, fitsOn, numbersOn, memberOn, TurnsAway, FamilyOn, Passes, GivesFits, CannotBeBettered}
 use Rattle.jobs.specs.Vectors.{header, count, difference}
-use Rattle.jobs.proofs.Faults.{reported-iff, fault-checked, fault-none, accepted-none, refused-some}
+use Rattle.jobs.proofs.Faults.{fault-checked, fault-none, accepted-none, refused-some}
 use Rattle.jobs.proofs.Solutions.{rising-solutions, in-solutions, best-only}
-use Rattle.jobs.proofs.Assembly.{component-length}
-use Rattle.jobs.proofs.Promises.{fault}
+use Rattle.jobs.proofs.Components.{joined-iff, in-leads}
+use Rattle.jobs.proofs.Numbering.{lead-iff}
+use Rattle.jobs.proofs.Assembly.{solves-iff}
+use Rattle.jobs.proofs.Promises.{fault, reported}
 
 -- ---- jobs that refuse them
 abbrev pub noCounts : List ℕ
@@ -66,44 +67,72 @@ one-not-zero e = lin [] e (search facts depth 20) (omega arith)
 
 -- ---- "one that plans the first group and sets every other count to its low (demand 2, the ties; demand 3 where no tie is broken)"
 abbrev pub RestAtLow : Job → List ℕ → Type 0
-RestAtLow j after = (i : ℕ) → i < length (j .variables) → component j i ≢ 0 → numberOn after i ≡ variable j i .low
+RestAtLow j after = (i : ℕ) → i < length (j .variables) → ¬ Joined j 0 i → numberOn after i ≡ variable j i .low
 
 pub first-group-only-ties : (area after : List ℕ) (w : ℤ) → RestAtLow (jobOf twoGroups) after → ¬ GivesFits twoGroups area (planned w) after
-unfolding jobOf unsigned table component
-first-group-only-ties area after w f d = broken (f 1 (omega arith) (omega arith)) (f 2 (omega arith) (omega arith)) (d .given w refl .0 .holds 0 (omega arith))
+unfolding jobOf unsigned table lowest
+first-group-only-ties area after w f d = broken (f 1 (omega arith) (apart 1 (omega arith))) (f 2 (omega arith) (apart 2 (omega arith))) (d .given w refl .0 .holds 0 (omega arith))
   where
+    apart : (i : ℕ) → lowest (jobOf twoGroups) 0 ≢ lowest (jobOf twoGroups) i → ¬ Joined (jobOf twoGroups) 0 i
+    apart i n s = n (joined-iff (jobOf twoGroups) 0 i .0 s)
+
     broken : {x y : ℤ} → x ≡ pos 0 → y ≡ pos 0 → pos 1 *ℤ x +ℤ negsuc 0 *ℤ y ≢ pos 1
     broken {x} {y} p q e = lin (x ∷ y ∷ []) (p & q & e) (search facts depth 20) (omega arith)
 
+-- the two counts of `twoCounts` are in groups of their own
+untied : ¬ Joined (jobOf twoCounts) 0 1
+unfolding jobOf unsigned table lowest
+untied s = omega (arith, joined-iff (jobOf twoCounts) 0 1 .0 s)
+
 pub first-group-only-worth : (area after : List ℕ) (w : ℤ) → RestAtLow (jobOf twoCounts) after → ¬ CannotBeBettered twoCounts area (planned w) after
-unfolding jobOf unsigned table component best
-first-group-only-worth area after w f d = one-not-zero (sym (numbers-are-fixed twoCounts area after w d 1 (omega arith)) ∙ f 1 (omega arith) (omega arith))
+unfolding jobOf unsigned table best
+first-group-only-worth area after w f d = one-not-zero (sym (numbers-are-fixed twoCounts area after w d 1 (omega arith)) ∙ f 1 (omega arith) untied)
 
 -- ---- "one whose fits are invented (demand 2, every fit-out exactly once)"
 -- as many numbers below fits as solutions, because each gives one of them, all are given, and none twice
-family-fits : {c : Job} {l g : ℕ} {after : List ℕ} → FamilyOn c l g after → fitsOn c after g ≡ fits c
+family-fits : {j : Job} {l g : ℕ} {after : List ℕ} → lowest j l ≡ l → FamilyOn j l g after → fitsOn j after g ≡ fits (componentJob j l)
 unfolding fits
-family-fits {c} {l} {g} {after} f =
+family-fits {j} {l} {g} {after} self f =
     sym (length-table member n)
     ∙ same-length
     (rising-table member n (λ i k h m e. omega (arith, f .once i k (omega arith) m e)))
     (rising-distinct lower-asym (rising-solutions c))
     (λ x. (
-      λ h. let (k, m, e) = in-table member n x .0 h in in-solutions c x .1 (f .all x .1 (k, (m, e))),
-      λ h. let (k, m) = f .all x .0 (in-solutions c x .0 h) in in-table member n x .1 (k, m .0, m .1),
+      λ h. let (k, m, e) = in-table member n x .0 h in in-solutions c x .1 (solves-iff j l self x .0 (f .all x .1 (k, (m, e)))),
+      λ h. let (k, m) = f .all x .0 (solves-iff j l self x .1 (in-solutions c x .0 h)) in in-table member n x .1 (k, m .0, m .1),
     ))
   where
+    c : Job
+    c = componentJob j l
+
     n : ℕ
-    n = fitsOn c after g
+    n = fitsOn j after g
 
     member : ℕ → List ℤ
-    member = memberOn c after g
+    member = memberOn j after g
 
-pub fits-are-fixed : (s area after : List ℕ) (w : ℤ) → GivesFits s area (planned w) after → (l : ℕ) → l ∈ leads (jobOf s) →
-    fitsOn (jobOf s) after (component (jobOf s) l) ≡ fits (componentJob (jobOf s) l)
+pub fits-are-fixed : (s area after : List ℕ) (w : ℤ) → GivesFits s area (planned w) after → (l : ℕ) → IsLead (jobOf s) l →
+    fitsOn (jobOf s) after (groupOn after l) ≡ fits (componentJob (jobOf s) l)
 fits-are-fixed s area after w d l m =
     let j = jobOf s in
-    ap (λ n. u32 after (24 + 16 * n + 16 * component j l)) (sym (component-length j l)) ∙ family-fits (d .given w refl .1 .1 .families l m)
+    family-fits (in-leads j l .0 (lead-iff j l .0 m) .1) (d .given w refl .1 .1 .families l m)
+
+-- ---- groups numbered from 1: the first has number 0, where there is a count at all
+pub numbered-from-one : (s area after : List ℕ) (w : ℤ) → 0 < length (jobOf s .variables) →
+    ((i : ℕ) → i < length (jobOf s .variables) → groupOn after i ≢ 0) → ¬ GivesFits s area (planned w) after
+numbered-from-one s area after w any from d =
+    let f = d .given w refl .1 .0 .groups in
+    let (i, h) = f .each 0 .0 (omega (arith, f .each (groupOn after 0) .1 (0, (any, refl)))) in
+    from i (h .0) (h .1)
+
+-- ---- two groups given one number: counts that are not joined have two
+pub one-number : (s area after : List ℕ) (w : ℤ) (i k : ℕ) → i < length (jobOf s .variables) → k < length (jobOf s .variables) →
+    ¬ Joined (jobOf s) i k → groupOn after i ≡ groupOn after k → ¬ GivesFits s area (planned w) after
+one-number s area after w i k h l n e d = n (d .given w refl .1 .0 .groups .together i k h l .0 e)
+
+pub one-number-for-both : (area after : List ℕ) (w : ℤ) → groupOn after 0 ≡ groupOn after 1 → ¬ GivesFits twoCounts area (planned w) after
+unfolding jobOf unsigned table
+one-number-for-both area after w = one-number twoCounts area after w 0 1 (omega arith) (omega arith) untied
 
 -- ---- "one that returns the base for any job (demand 3)"
 abbrev pub AtBase : Job → List ℕ → Type 0
@@ -138,26 +167,42 @@ no-fit-for-noCounts area after l =
     no-fit-for-all noCounts area after l [] record { long = refl; low = λ i h. absurd (omega arith); high = λ i h. absurd (omega arith); holds = λ k h. absurd (omega arith) }
 
 -- ---- "one that gives reason 8 or another reason to each job before reading it (demand 1, the table's conditions, each of which
--- is necessary as well as sufficient)"
+-- is necessary as well as sufficient)", and so demand 2, where a fit-out is given when one exists
 module _ (s area after : List ℕ) (reason row : ℕ) where
+  -- no reason is reported for a job that the check accepts, with room for its sheet
+  passes : checked s ≡ accepted → sheetLength (jobOf s) ≤ length area → Passes s area
+  passes ok room p q (r, h) =
+      Option·none-ne-some r (sym (fault-none s (short? (jobOf s) area) (accepted-none s ok) (λ l. omega (arith, l, room))) ∙ reported s area r (h .1 .1))
+
+  pub refused-though-it-fits : checked s ≡ accepted → sheetLength (jobOf s) ≤ length area → ¬ GivesFits s area (refused reason row) after
+  refused-though-it-fits ok room d = ⊎-elim (λ (w, e). not-planned e) (λ (l, e). not-noFit e) (d .answered (passes ok room))
+    where
+      not-planned : {w : ℤ} → refused reason row ≡ planned w → ⊥
+      not-planned e = let z : _≡_ {A = ℕ} 0 1 = cc in omega arith
+
+      not-noFit : {l : ℕ} → refused reason row ≡ noFit l → ⊥
+      not-noFit e = let z : _≡_ {A = ℕ} 0 1 = cc in omega arith
+
   turned-by : TurnsAway s area (refused reason row) after → (r : Reason) × ((fault s area ≡ some r) × ((numberOf r ≡ reason) × (rowOf r ≡ row)))
-  turned-by d = let (r, h) = d .exactly reason row .0 refl in (r, (reported-iff s (shortFor? (jobOf s) area) r .1 (h .1 .1), (h .0, h .1 .0)))
+  turned-by d = let (r, h) = d .exactly reason row .0 refl in (r, (reported s area r (h .1 .1), (h .0, h .1 .0)))
 
   -- a job that the check accepts, with room for its sheet, has no reason and row
   pub refused-unread : checked s ≡ accepted → sheetLength (jobOf s) ≤ length area → ¬ TurnsAway s area (refused reason row) after
-  refused-unread ok room d =
-      let (r, h) = turned-by d in
-      Option·none-ne-some r (sym (fault-none s (shortFor? (jobOf s) area) (accepted-none s ok) (λ l. omega (arith, l, room))) ∙ h .0)
+  refused-unread ok room d = passes ok room reason row (d .exactly reason row .0 refl)
 
   -- one that it refuses has its reason and row alone
   pub refused-otherwise : (p q : ℕ) → checked s ≡ turned p q → TurnsAway s area (refused reason row) after → (reason ≡ p) × (row ≡ q)
   refused-otherwise p q e d =
       let (r, h) = turned-by d in
       let (t, k) = refused-some s p q e in
-      let same : r ≡ t = Option·some-injective r t (sym (h .0) ∙ fault-checked s (shortFor? (jobOf s) area) t (k .0)) in
+      let same : r ≡ t = Option·some-injective r t (sym (h .0) ∙ fault-checked s (short? (jobOf s) area) t (k .0)) in
       (sym (h .1 .0) ∙ ap numberOf same ∙ k .1 .0, sym (h .1 .1) ∙ ap rowOf same ∙ k .1 .1)
 
 -- so none can be given to each job
 pub refused-noCounts : (area after : List ℕ) (reason row : ℕ) → 24 ≤ length area → ¬ TurnsAway noCounts area (refused reason row) after
 unfolding checked jobOf unsigned leads
 refused-noCounts area after reason row room = refused-unread noCounts area after reason row refl room
+
+pub refused-for-all : (area after : List ℕ) (reason row : ℕ) → 24 ≤ length area → ¬ GivesFits noCounts area (refused reason row) after
+unfolding checked jobOf unsigned leads
+refused-for-all area after reason row room = refused-though-it-fits noCounts area after reason row refl room

@@ -1,9 +1,10 @@
 -- Document 01, "Groups and their families": "A group is a largest set of counts joined by equations; an untied count is a
 -- group of its own. Groups are numbered in the order of their lowest count." In the field, a connected component.
 use mathlib.Core.Path.{_≡_}
+use mathlib.Core.Logic.{_↔_}
 use mathlib.Core.Bool.{cond, _||_}
 use mathlib.Core.List.{List}
-use Prim.Native.Nat.{ℕ, zero, suc, _+_, _*_, _<_, min}
+use Prim.Native.Nat.{ℕ, zero, suc, _+_, _*_, _≤_, _<_, min}
 use lib.Dec.{eqb, ltb}
 use lib.ListN.{length}
 use Rattle.lists.specs.Keep.{keep}
@@ -24,13 +25,26 @@ pub data Chain (j : Job) (m p : ℕ) : ℕ → Type 0 where
 abbrev pub Joined : Job → ℕ → ℕ → Type 0
 Joined j = Chain j (length (j .equations))
 
+-- l is the lowest variable of its group
+pub record IsLead (j : Job) (l : ℕ) : Type 0 where
+  pub variable : l < length (j .variables)
+  pub least : (i : ℕ) → Joined j l i → l ≤ i
+
+-- there are g groups, and `group` gives each variable the number of its own: 0 to g − 1, in the order of their lowest variables
+-- (proofs/Numbering.antt: just one g is so, with one numbering)
+pub record Numbered (j : Job) (g : ℕ) (group : ℕ → ℕ) : Type 0 where
+  pub together : (i k : ℕ) → i < length (j .variables) → k < length (j .variables) → (group i ≡ group k) ↔ Joined j i k
+  pub in-order : (l k : ℕ) → IsLead j l → IsLead j k → l < k → group l < group k
+  pub each : (k : ℕ) → (k < g) ↔ ((i : ℕ) × ((i < length (j .variables)) × (group i ≡ k)))
+
 -- equation k joins two sets that the earlier ones left separate (proofs/Components.antt: exactly when its two variables have
 -- different lowest variables then)
 abbrev pub Joins : Job → ℕ → Type 0
 Joins j k = ¬ Chain j k (equation j k .left) (equation j k .right)
 
--- ---- the same as a function: a group is named by its lowest variable (proofs/Components.antt: two variables are joined
--- exactly when they have the same lowest variable, and it is joined to them and the lowest that is)
+-- ---- the same as functions that compute; the demands do without them. A group is named by its lowest variable
+-- (proofs/Components.antt: two variables are joined exactly when they have the same lowest variable, and it is joined to them
+-- and the lowest that is).
 
 -- if i is one of p and q, which an equation brings together, the lower of these
 abbrev pub merged : ℕ → ℕ → ℕ → ℕ
@@ -49,7 +63,7 @@ lowest j i = lowestBy j (length (j .equations)) i
 abbrev pub home : Job → Equation → ℕ
 home j e = lowest j (e .left)
 
--- ---- groups by their numbers
+-- ---- groups by their numbers (proofs/Numbering.antt: `leads` are those that `IsLead`, and `component` numbers the groups)
 
 -- the lowest variable of each group, in order
 unfoldable pub leads : Job → List ℕ

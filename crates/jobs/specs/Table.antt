@@ -13,7 +13,7 @@ use Rattle.lists.specs.Lexicographic.{Lower}
 use Rattle.runs.specs.Run.{bound}
 use Rattle.runs.specs.Workings.{InLimits}
 use Rattle.jobs.specs.Bytes.{u32}
-use Rattle.jobs.specs.Component.{sheetLength}
+use Rattle.jobs.specs.Component.{Numbered, groupRows}
 use Rattle.jobs.specs.Job.{Variable, Equation, Job, form, variableCount, equationCount, equationRow, variableAt, equationAt}
 
 -- ---- the conditions, line by line
@@ -58,7 +58,7 @@ Broken short s WrongArgument = ⊥
 
 -- for the planner, which is lent an area: "shorter than 24 + 16n + 16g"
 abbrev pub ShortFor : Job → List ℕ → Type 0
-ShortFor j area = length area < sheetLength j
+ShortFor j area = (g : ℕ) × ((group : ℕ → ℕ) × (Numbered j g group × (length area < groupRows j + 16 * g)))
 
 -- for the job check, to which no area is lent
 abbrev pub NoArea : Type 0

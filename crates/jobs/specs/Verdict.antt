@@ -2,14 +2,13 @@
 -- that has no fit-out; refused, with a reason and a row." It is settled by the job's bytes and the area as lent.
 use mathlib.Core.Option.{Option, none, some}
 use mathlib.Core.List.{List}
-use Prim.Native.Nat.{ℕ}
+use Prim.Native.Nat.{ℕ, _<_}
 use lib.ListN.{length}
 use lib.IntN.{ℤ}
 use Rattle.reasons.specs.declared.Reason.{Reason}
 use Rattle.reasons.specs.Numbers.{numberOf, rowOf}
 use Rattle.jobs.specs.Decide.{below?, equal?, firstOf}
 use Rattle.jobs.specs.Job.{Job, jobOf}
-use Rattle.jobs.specs.Table.{ShortFor}
 use Rattle.jobs.specs.Faults.{firstBroken}
 use Rattle.jobs.specs.Solution.{objective, best}
 use Rattle.jobs.specs.Component.{leads, sheetLength}
@@ -30,9 +29,10 @@ outcome j (some r) l = refused (numberOf r) (rowOf r)
 outcome j none (some l) = noFit l
 outcome j none none = planned (objective j (best j))
 
-abbrev pub shortFor? : (j : Job) (area : List ℕ) → Dec (ShortFor j area)
-shortFor? j area = below? (length area) (sheetLength j)
+-- reason 8, as a test that computes (proofs/Numbering.antt: it is what the table says, `short-iff`)
+abbrev pub short? : (j : Job) (area : List ℕ) → Dec (length area < sheetLength j)
+short? j area = below? (length area) (sheetLength j)
 
 unfoldable pub verdict : List ℕ → List ℕ → Verdict
 unfolding firstBroken firstWithout objective best jobOf leads
-verdict s area = outcome (jobOf s) (firstBroken (shortFor? (jobOf s) area) s) (firstWithout (jobOf s))
+verdict s area = outcome (jobOf s) (firstBroken (short? (jobOf s) area) s) (firstWithout (jobOf s))
