@@ -1,12 +1,15 @@
 -- `check_rows` meets its contract: the variables' checks stand before the equations'.
 use denote.Ref.{now}
 use mathlib.Core.Path.{_≡_, sym, _∙_, ap}
-use mathlib.Core.Option.{Option}
+use mathlib.Core.Option.{Option, some}
 use mathlib.Core.List.{List, flatMap}
+use Prim.Native.Nat.{ℕ}
 use Rattle.reasons.specs.declared.Reason.{Reason}
 use Rattle.reasons.specs.declared.Reason.the-variants.{VariableRange}
 use Rattle.lists.specs.Table.{table, upTo}
-use Rattle.jobs.specs.Job.{variableCount}
+use Rattle.jobs.specs.declared.Checked.{Checked}
+use Rattle.jobs.specs.declared.Checked.the-variants.{Accepted, Refused}
+use Rattle.jobs.specs.Job.{variableCount, equationCount}
 use Rattle.jobs.specs.Decide.{firstOf}
 use Rattle.jobs.specs.Faults.{broken?, noArea?, faultOf, equationChecks, rowChecks}
 use Rattle.jobs.proofs.Firsts.{first-past, first-stays}
@@ -32,28 +35,38 @@ enum-told c = search needs
 check-equations-requires : tie.Need-check-equations-requires
 check-equations-requires c κs = search needs
 
--- what is known once the variables' rows are through
-abbrev first : tie.After-check-variables → List Reason → Option Reason
-first a = firstOf (broken? noArea? (now (a .before .before .before .before .args .job)))
+-- the fault of the rows, from what is answered of the variables' rows, and then of the equations' rows
+module _ (s : List ℕ) (n m : ℕ) (n-is : n ≡ variableCount s) (m-is : m ≡ equationCount s) where
+  abbrev first : List Reason → Option Reason
+  first = firstOf (broken? noArea? s)
 
-abbrev variables : tie.After-check-variables → List Reason
-variables a = table VariableRange (variableCount (now (a .before .before .before .before .args .job)))
+  abbrev variables : List Reason
+  variables = table VariableRange (variableCount s)
 
-of-variables : (a : tie.After-check-variables) → first a (variables a) ≡ faultOf (a .check-variables .result)
-of-variables a = ap (λ n. first a (table VariableRange n)) (sym (a .before .before .variable-count .ensures)) ∙ sym (a .check-variables .ensures)
+  of-variables : {v w : Checked} → faultOf v ≡ first (table VariableRange n) → v ≡ w → first variables ≡ faultOf w
+  of-variables h e = ap (λ n. first (table VariableRange n)) (sym n-is) ∙ sym h ∙ ap faultOf e
+
+  refused : {v : Checked} {r : Reason} → faultOf v ≡ first (table VariableRange n) → v ≡ Refused r → some r ≡ first (rowChecks s)
+  unfolding rowChecks
+  refused h e = sym (first-stays (broken? noArea? s) variables _ (of-variables h e))
+
+  accepted : {v : Checked} {o : Option Reason} → faultOf v ≡ first (table VariableRange n) → v ≡ Accepted → o ≡ first (flatMap equationChecks (upTo m)) → o ≡ first (rowChecks s)
+  unfolding rowChecks
+  accepted h e q = q ∙ ap (λ m. first (flatMap equationChecks (upTo m))) m-is ∙ sym (first-past (broken? noArea? s) variables _ (of-variables h e))
 
 returns : tie.Need-returns
-unfolding rowChecks
 returns c =
     let a = c .before .before .before in
-    sym (first-stays (broken? noArea? _) (variables a) _ (of-variables a ∙ ap faultOf (c .before .of-variables .given .1)))
+    let b = a .before .before in
+    refused (now (b .before .before .args .job)) (b .variable-count .result) (a .before .equation-count .result) (b .variable-count .ensures) (a .before .equation-count .ensures)
+    (a .check-variables .ensures) (c .before .of-variables .given .1)
 
 returns-2 : tie.Need-returns-2
-unfolding rowChecks
 returns-2 c =
     let a = c .before .before .before in
-    c .check-equations .ensures ∙ ap (λ m. first a (flatMap equationChecks (upTo m))) (a .before .equation-count .ensures) ∙
-    sym (first-past (broken? noArea? _) (variables a) _ (of-variables a ∙ ap faultOf (c .before .enum-told .given .1)))
+    let b = a .before .before in
+    accepted (now (b .before .before .args .job)) (b .variable-count .result) (a .before .equation-count .result) (b .variable-count .ensures) (a .before .equation-count .ensures)
+    (a .check-variables .ensures) (c .before .enum-told .given .1) (c .check-equations .ensures)
 
 pub check-rows-spec : {M : Type 1} → statement M
 check-rows-spec =
