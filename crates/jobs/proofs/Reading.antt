@@ -14,7 +14,6 @@ use Rattle.ints.specs.Within.{isWithin}
 use Rattle.ints.proofs.Signed.{held, told}
 use Rattle.ints.proofs.{ℤ, pos, negsuc, _-ℤ_, lin, facts, [], _∷_}
 use Rattle.jobs.specs.Bytes.{unsigned, twosComplement}
-use Rattle.jobs.specs.Method.{Reads}
 
 pub unsigned-split : (j k : ℕ) (s : List ℕ) (at : ℕ) → unsigned (j + k) s at ≡ unsigned j s at + 256 ^ j * unsigned k s (at + j)
 unfolding unsigned
@@ -31,11 +30,9 @@ below : (p q x y : ℕ) → x < p → y < q → x + p * y < p * q
 below p q x y h l = let more : p * suc y ≤ p * q = mul-le-mul-left p l in let m : p * y + p ≤ p * q = rw (mul-suc p y) at more in omega arith
 
 -- so what is read in two parts is read as a whole
-pub both-parts : (j k : ℕ) (s : List ℕ) (at x y : ℕ) → 256 ^ (j + k) ≡ 256 ^ j * 256 ^ k → Reads j s at x → Reads k s (at + j) y → Reads (j + k) s at (x + 256 ^ j * y)
-both-parts j k s at x y e f g = record {
-  same = ap₂ (λ u v. u + 256 ^ j * v) (f .same) (g .same) ∙ sym (unsigned-split j k s at);
-  small = rw e (below (256 ^ j) (256 ^ k) x y (f .small) (g .small));
-}
+pub both-parts : (j k : ℕ) (s : List ℕ) (at x y : ℕ) → 256 ^ (j + k) ≡ 256 ^ j * 256 ^ k → (x ≡ unsigned j s at) × (x < 256 ^ j) → (y ≡ unsigned k s (at + j)) × (y < 256 ^ k) →
+    (x + 256 ^ j * y ≡ unsigned (j + k) s at) × (x + 256 ^ j * y < 256 ^ (j + k))
+both-parts j k s at x y e (p, f) (q, g) = (ap₂ (λ u v. u + 256 ^ j * v) p q ∙ sym (unsigned-split j k s at), rw e (below (256 ^ j) (256 ^ k) x y f g))
 
 -- ---- two's complement, as the code has it: up to half of the greatest number the number itself, and else −1 less what is
 -- left up to the greatest

@@ -1,19 +1,13 @@
 -- What the inner functions promise each other. A reader who believes the definitions need not read this.
 use mathlib.Core.Path.{_≡_}
-use mathlib.Core.List.{List}
 use Prim.Native.Nat.{ℕ, _+_, _<_, _^_}
 use lib.IntN.{ℤ}
-use Rattle.jobs.specs.Bytes.{unsigned, twosComplement}
+use Rattle.jobs.specs.Bytes.{twosComplement}
 
 -- r is the byte x
 pub record Byte (x r : ℕ) : Type 0 where
   pub same : r ≡ x
   pub small : r < 256
-
--- x is the number in k bytes, and no larger than they can hold
-pub record Reads (k : ℕ) (s : List ℕ) (at x : ℕ) : Type 0 where
-  pub same : x ≡ unsigned k s at
-  pub small : x < 256 ^ k
 
 -- r is x in two's complement, at the width that holds numbers up to most
 pub record SignedOf (most x : ℕ) (r : ℤ) : Type 0 where

@@ -49,8 +49,8 @@ returns c =
     let e = d .before in
     let f = e .before in
     λ i. record {
-      left = f .before .u16-at .ensures .same i;
-      right = f .u16-at2 .ensures .same i;
+      left = f .before .u16-at .ensures .0 i;
+      right = f .u16-at2 .ensures .0 i;
       a = given (e .i32-at .ok) (e .i32-at .ensures) i;
       b = given (d .i32-at2 .ok) (d .i32-at2 .ensures) i;
       c = given (c .i64-at .ok) (c .i64-at .ensures) i;

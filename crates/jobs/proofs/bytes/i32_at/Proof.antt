@@ -13,7 +13,7 @@ signed-requires : tie.Need-signed-requires
 signed-requires c κs = search needs
 
 returns : tie.Need-returns
-returns c = given (c .signed .ok) (c .signed .ensures .same 4 refl ∙ ap (twosComplement 4) (c .before .u32-at .ensures .same))
+returns c = given (c .signed .ok) (c .signed .ensures .same 4 refl ∙ ap (twosComplement 4) (c .before .u32-at .ensures .0))
 
 pub i32-at-spec : {M : Type 1} → statement M
 i32-at-spec = tie.close (tie.spec u32-at-requires signed-requires returns)

@@ -13,7 +13,7 @@ signed-requires : tie.Need-signed-requires
 signed-requires c κs = search needs
 
 returns : tie.Need-returns
-returns c = given (c .signed .ok) (c .signed .ensures .same 8 refl ∙ ap (twosComplement 8) (c .before .u64-at .ensures .same))
+returns c = given (c .signed .ok) (c .signed .ensures .same 8 refl ∙ ap (twosComplement 8) (c .before .u64-at .ensures .0))
 
 pub i64-at-spec : {M : Type 1} → statement M
 i64-at-spec = tie.close (tie.spec u64-at-requires signed-requires returns)

@@ -14,7 +14,7 @@ wide-requires c κs = search needs
 
 returns : tie.Need-returns
 unfolding unsigned
-returns c = record { same = c .wide .ensures .same ∙ omega arith; small = c .wide .ensures .small }
+returns c = (c .wide .ensures .same ∙ omega arith, c .wide .ensures .small)
 
 pub u8-at-spec : {M : Type 1} → statement M
 u8-at-spec = tie.close (tie.spec shared-slice-read-wide wide-requires returns)

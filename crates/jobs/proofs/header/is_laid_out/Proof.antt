@@ -41,25 +41,25 @@ u32-at-requires : tie.Need-u32-at-requires
 u32-at-requires c κs = search needs
 
 returns : tie.Need-returns
-returns c = (λ e. absurd (false≢true e), λ h. absurd (c .if1 .taken (c .before .u32-at .ensures .same ∙ h .variables)))
+returns c = (λ e. absurd (false≢true e), λ h. absurd (c .if1 .taken (c .before .u32-at .ensures .0 ∙ h .variables)))
 
 u32-at-requires-2 : tie.Need-u32-at-requires-2
 u32-at-requires-2 c κs = search needs
 
 returns-2 : tie.Need-returns-2
-returns-2 c = (λ e. absurd (false≢true e), λ h. absurd (c .if2 .taken (c .before .u32-at2 .ensures .same ∙ h .equations ∙ omega arith)))
+returns-2 c = (λ e. absurd (false≢true e), λ h. absurd (c .if2 .taken (c .before .u32-at2 .ensures .0 ∙ h .equations ∙ omega arith)))
 
 u32-at-requires-3 : tie.Need-u32-at-requires-3
 u32-at-requires-3 c κs = search needs
 
 returns-3 : tie.Need-returns-3
-returns-3 c = (λ e. absurd (false≢true e), λ h. absurd (c .if3 .taken (c .before .u32-at3 .ensures .same ∙ h .length-field ∙ omega arith)))
+returns-3 c = (λ e. absurd (false≢true e), λ h. absurd (c .if3 .taken (c .before .u32-at3 .ensures .0 ∙ h .length-field ∙ omega arith)))
 
 u32-at-requires-4 : tie.Need-u32-at-requires-4
 u32-at-requires-4 c κs = search needs
 
 returns-4 : tie.Need-returns-4
-returns-4 c = (λ e. absurd (false≢true e), λ h. absurd (c .if4 .taken (c .before .u32-at4 .ensures .same ∙ h .zeros)))
+returns-4 c = (λ e. absurd (false≢true e), λ h. absurd (c .if4 .taken (c .before .u32-at4 .ensures .0 ∙ h .zeros)))
 
 returns-5 : tie.Need-returns-5
 returns-5 c =
@@ -67,8 +67,8 @@ returns-5 c =
     let e = d .before .before in
     let f = e .before .before in
     let a = f .before .before .before .args in
-    laid-out (now (a .job)) (a .n) (a .m) (omega arith) (omega arith) (sym (f .before .u32-at .ensures .same) ∙ f .if1 .left) (sym (e .before .u32-at2 .ensures .same) ∙ e .if2 .left)
-    (sym (d .before .u32-at3 .ensures .same) ∙ d .if3 .left) (sym (c .before .u32-at4 .ensures .same) ∙ c .if4 .left)
+    laid-out (now (a .job)) (a .n) (a .m) (omega arith) (omega arith) (sym (f .before .u32-at .ensures .0) ∙ f .if1 .left) (sym (e .before .u32-at2 .ensures .0) ∙ e .if2 .left)
+    (sym (d .before .u32-at3 .ensures .0) ∙ d .if3 .left) (sym (c .before .u32-at4 .ensures .0) ∙ c .if4 .left)
 
 pub is-laid-out-spec : {M : Type 1} → statement M
 is-laid-out-spec =
