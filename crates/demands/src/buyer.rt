@@ -2,6 +2,7 @@
 
 ghost use Rattle.jobs.specs.Demands.{CannotBeBettered};
 ghost use Rattle.planner.specs.Outcome.{verdictOf};
+use crate::sheet;
 use planner::Outcome;
 
 /// Plans a job: any bytes, and any answer area.
@@ -9,4 +10,18 @@ pub fn plan(job: &[u8], area: &mut [u8]) -> Outcome
     ensures { λ r. ⌜ CannotBeBettered (now (job .entry)) (now (area .entry)) (verdictOf r) (now (area .exit)) ⌝ }
 {
     planner::plan(job, area)
+}
+
+// Bytes of a sheet are written again: the number of count 0, and that of count 1 in a group apart from it.
+fn plan_rewritten(job: &[u8], area: &mut [u8]) -> Outcome
+    ensures { λ r. ⌜ CannotBeBettered (now (job .entry)) (now (area .entry)) (verdictOf r) (now (area .exit)) ⌝ }
+{
+    let outcome = planner::plan(job, area);
+    let planned = sheet::is_planned(outcome);
+    let first = sheet::get(area, 24);
+    sheet::put(area, planned, 24, first);
+    let apart = sheet::is_apart(outcome, area);
+    let number = sheet::get(area, 40);
+    sheet::put(area, apart, 40, number);
+    outcome
 }

@@ -2,11 +2,63 @@
 
 ghost use Rattle.jobs.specs.Demands.{GivesFits};
 ghost use Rattle.planner.specs.Outcome.{verdictOf};
+use crate::sheet;
 use planner::Outcome;
+use reasons::Reason;
 
 /// Plans a job: any bytes, and any answer area.
 pub fn plan(job: &[u8], area: &mut [u8]) -> Outcome
     ensures { λ r. ⌜ GivesFits (now (job .entry)) (now (area .entry)) (verdictOf r) (now (area .exit)) ⌝ }
 {
     planner::plan(job, area)
+}
+
+// A job without a whole header is turned away before the planner is asked.
+fn plan_early(job: &[u8], area: &mut [u8]) -> Outcome
+    ensures { λ r. ⌜ GivesFits (now (job .entry)) (now (area .entry)) (verdictOf r) (now (area .exit)) ⌝ }
+{
+    if job.len() < 24 {
+        return Outcome::Refused(Reason::ShortJob);
+    }
+    planner::plan(job, area)
+}
+
+// Another job is planned first, into another area.
+fn plan_second(job: &[u8], area: &mut [u8], first: &[u8], other: &mut [u8]) -> Outcome
+    ensures { λ r. ⌜ GivesFits (now (job .entry)) (now (area .entry)) (verdictOf r) (now (area .exit)) ⌝ }
+{
+    planner::plan(first, other);
+    let last = planner::plan(job, area);
+    last
+}
+
+// The answer is taken apart and made again.
+fn plan_passed_on(job: &[u8], area: &mut [u8]) -> Outcome
+    ensures { λ r. ⌜ GivesFits (now (job .entry)) (now (area .entry)) (verdictOf r) (now (area .exit)) ⌝ }
+{
+    let outcome = planner::plan(job, area);
+    match outcome {
+        Outcome::Planned(worth) => Outcome::Planned(worth),
+        Outcome::NoFit(variable) => Outcome::NoFit(variable),
+        Outcome::Refused(reason) => Outcome::Refused(reason),
+    }
+}
+
+// Bytes of a sheet are written again: of one count its group and its fits; of count 1, in a group apart from count 0, its number and
+// its group.
+fn plan_rewritten(job: &[u8], area: &mut [u8]) -> Outcome
+    ensures { λ r. ⌜ GivesFits (now (job .entry)) (now (area .entry)) (verdictOf r) (now (area .exit)) ⌝ }
+{
+    let outcome = planner::plan(job, area);
+    let single = sheet::is_single(outcome, area);
+    let group = sheet::get(area, 36);
+    sheet::put(area, single, 36, group);
+    let fits = sheet::get(area, 40);
+    sheet::put(area, single, 40, fits);
+    let apart = sheet::is_apart(outcome, area);
+    let number = sheet::get(area, 40);
+    sheet::put(area, apart, 40, number);
+    let next = sheet::get(area, 52);
+    sheet::put(area, apart, 52, next);
+    outcome
 }

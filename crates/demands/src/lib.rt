@@ -1,7 +1,8 @@
 //! What each user of the planner may rely on: one demand to a function, and nothing else promised or done.
 //!
-//! The edits in `must-fail/` put the sham planners of document 01 in the planner's place, each under the demand that it breaks.
-//! That it breaks it, and is not only unproved, is shown in `crates/jobs/proofs/Shams.antt`.
+//! Beside each `plan` stand variants of it that change nothing: a job turned away that the planner would turn away, an answer
+//! passed on, bytes of the sheet written again as they are. Each is proved to keep the demand. The edits in `must-fail/` change
+//! one operand of a variant, and so put a sham planner of document 01 in its place.
 
 // a faulty job is turned away, and only a faulty one
 pub mod service_port;
@@ -9,3 +10,5 @@ pub mod service_port;
 pub mod installer;
 // no other fit-out of the job is worth more, or as much and comes earlier
 pub mod buyer;
+// bytes of a sheet, for the variants
+mod sheet;

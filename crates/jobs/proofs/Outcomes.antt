@@ -1,17 +1,19 @@
 -- The planner's verdict and sheet, case by case, from what the job check answers.
 use mathlib.Core.Path.{_≡_, _∙_, ap, ap₂}
 use mathlib.Core.Option.{Option, none, some}
-use mathlib.Core.List.{List, _++_}
+use mathlib.Core.List.{List, [], _∷_, _++_}
 use Prim.Native.Nat.{ℕ, _≤_, _<_}
 use native.Mathlib.Omega.{arith}
 use lib.ListN.{length, drop}
 use Rattle.reasons.specs.declared.Reason.{Reason}
+use Rattle.reasons.specs.declared.Reason.the-variants.{ShortJob, WrongMark, TooMany, WrongHeader, ShortArea}
 use Rattle.jobs.specs.Job.{Job, jobOf}
 use Rattle.jobs.specs.Solution.{objective, best}
 use Rattle.jobs.specs.Component.{sheetLength}
-use Rattle.jobs.specs.Faults.{accepted, refused as turned, checked}
+use Rattle.jobs.specs.Faults.{broken?, rowChecks, checks, noArea?, accepted, refused as turned, answered, checked}
 use Rattle.jobs.specs.Verdict.{planned, noFit, refused, firstWithout, outcome, short?, verdict}
 use Rattle.jobs.specs.Sheet.{laidOut, sheet}
+use Rattle.jobs.proofs.Firsts.{first-here}
 use Rattle.jobs.proofs.Faults.{fault-checked, fault-short, fault-none, accepted-none, refused-some}
 use Rattle.jobs.proofs.Fields.{if-planned, if-noFit, if-refused}
 use Rattle.jobs.proofs.Promises.{fault, verdict-is}
@@ -29,6 +31,11 @@ module _ (s area : List ℕ) where
     where
       v : verdict s area ≡ refused p q
       v = let (r, h) = refused-some s p q e in by-fault (fault-checked s (short? j area) r (h .0)) ∙ ap₂ refused (h .1 .0) (h .1 .1)
+
+  -- so it does where there is no whole header
+  pub no-header : length s < 24 → (verdict s area ≡ refused 1 0) × (sheet s area ≡ area)
+  unfolding checked checks
+  no-header h = as-checked 1 0 (ap answered (first-here (broken? noArea? s) ShortJob (WrongMark ∷ TooMany ∷ WrongHeader ∷ (rowChecks s ++ ShortArea ∷ [])) h))
 
   module _ (ok : checked s ≡ accepted) where
     -- it accepts, and the area is too short
