@@ -16,6 +16,7 @@ pub fn plan(job: &[u8], area: &mut [u8]) -> Outcome
 fn plan_rewritten(job: &[u8], area: &mut [u8]) -> Outcome
     ensures { λ r. ⌜ CannotBeBettered (now (job .entry)) (now (area .entry)) (verdictOf r) (now (area .exit)) ⌝ }
 {
+    let low = sheet::get(job, 36);
     let outcome = planner::plan(job, area);
     let planned = sheet::is_planned(outcome);
     let first = sheet::get(area, 24);

@@ -44,9 +44,8 @@ fn plan_passed_on(job: &[u8], area: &mut [u8]) -> Outcome
     }
 }
 
-// Bytes of a sheet are written again: of one count its group and its fits; of count 1, in a group apart from count 0, its number and
-// its group.
-fn plan_rewritten(job: &[u8], area: &mut [u8]) -> Outcome
+// Bytes of the sheet of one count are written again: its group and its fits.
+fn plan_single(job: &[u8], area: &mut [u8]) -> Outcome
     ensures { λ r. ⌜ GivesFits (now (job .entry)) (now (area .entry)) (verdictOf r) (now (area .exit)) ⌝ }
 {
     let outcome = planner::plan(job, area);
@@ -55,10 +54,19 @@ fn plan_rewritten(job: &[u8], area: &mut [u8]) -> Outcome
     sheet::put(area, single, 36, group);
     let fits = sheet::get(area, 40);
     sheet::put(area, single, 40, fits);
+    outcome
+}
+
+// Bytes of count 1, in a group apart from count 0, are written again: its number and its group.
+fn plan_apart(job: &[u8], area: &mut [u8]) -> Outcome
+    ensures { λ r. ⌜ GivesFits (now (job .entry)) (now (area .entry)) (verdictOf r) (now (area .exit)) ⌝ }
+{
+    let low = sheet::get(job, 36);
+    let outcome = planner::plan(job, area);
     let apart = sheet::is_apart(outcome, area);
     let number = sheet::get(area, 40);
     sheet::put(area, apart, 40, number);
-    let next = sheet::get(area, 52);
-    sheet::put(area, apart, 52, next);
+    let group = sheet::get(area, 52);
+    sheet::put(area, apart, 52, group);
     outcome
 }

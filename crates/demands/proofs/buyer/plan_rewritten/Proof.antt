@@ -7,14 +7,17 @@ use Rattle.demands.proofs.Carried.{again}
 use Rattle.demands.proofs.buyer.plan_rewritten.Statement.{statement}
 use Rattle.demands.proofs.buyer.plan_rewritten.Tie as tie
 
+get-requires : tie.Need-get-requires
+get-requires c κs = search needs
+
 plan-requires : tie.Need-plan-requires
 plan-requires c κs = search needs
 
 is-planned-requires : tie.Need-is-planned-requires
 is-planned-requires c κs = search needs
 
-get-requires : tie.Need-get-requires
-get-requires c κs = search needs
+get-requires-2 : tie.Need-get-requires-2
+get-requires-2 c κs = search needs
 
 put-requires : tie.Need-put-requires
 put-requires c κs = search needs
@@ -22,8 +25,8 @@ put-requires c κs = search needs
 is-apart-requires : tie.Need-is-apart-requires
 is-apart-requires c κs = search needs
 
-get-requires-2 : tie.Need-get-requires-2
-get-requires-2 c κs = search needs
+get-requires-3 : tie.Need-get-requires-3
+get-requires-3 c κs = search needs
 
 put-requires-2 : tie.Need-put-requires-2
 put-requires-2 c κs = search needs
@@ -34,28 +37,29 @@ same-length c = search needs
 returns : tie.Need-returns
 returns c =
     let put2 = c .before .before in
-    let get2 = put2 .before .before in
-    let apart = get2 .before .before in
+    let get3 = put2 .before .before in
+    let apart = get3 .before .before in
     let put = apart .before .before .before .before in
-    let get = put .before .before in
-    let told = get .before .before in
+    let get2 = put .before .before in
+    let told = get2 .before .before in
     let plan = told .before .before .before in
-    let s = plan .before .before .before .before .args in
+    let s = plan .before .before .before .before .before .args in
     subst (CannotBeBettered (s .job .now) (s .area .now) (verdictOf (plan .plan .result)))
-    (sym (again (apart .is-apart .result) (put .put .last .0) (put2 .put2 .last .0) 40 (get2 .get2 .result) (get2 .get2 .ensures) (put2 .put2 .ensures)
-    ∙ again (told .is-planned .result) (plan .plan .last .1 .0) (put .put .last .0) 24 (get .get .result) (get .get .ensures) (put .put .ensures)))
+    (sym (again (apart .is-apart .result) (put .put .last .0) (put2 .put2 .last .0) 40 (get3 .get3 .result) (get3 .get3 .ensures) (put2 .put2 .ensures)
+    ∙ again (told .is-planned .result) (plan .plan .last .1 .0) (put .put .last .0) 24 (get2 .get2 .result) (get2 .get2 .ensures) (put .put .ensures)))
     (plan .plan .ensures .1 .1 .1 .1)
 
 pub plan-rewritten-spec : {M : Type 1} → statement M
 plan-rewritten-spec =
     tie.close
     (tie.spec
+    get-requires
     plan-requires
     is-planned-requires
-    get-requires
+    get-requires-2
     put-requires
     is-apart-requires
-    get-requires-2
+    get-requires-3
     put-requires-2
     same-length
     returns)

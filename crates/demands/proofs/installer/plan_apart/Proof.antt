@@ -1,0 +1,60 @@
+-- `installer::plan_apart` keeps the demand: every byte is the planner's.
+use mathlib.Core.Path.{sym, _∙_, subst}
+use borrow.Author.Needs.{needs}
+use Rattle.jobs.specs.Demands.{GivesFits}
+use Rattle.planner.specs.Outcome.{verdictOf}
+use Rattle.demands.proofs.Carried.{again}
+use Rattle.demands.proofs.installer.plan_apart.Statement.{statement}
+use Rattle.demands.proofs.installer.plan_apart.Tie as tie
+
+get-requires : tie.Need-get-requires
+get-requires c κs = search needs
+
+plan-requires : tie.Need-plan-requires
+plan-requires c κs = search needs
+
+is-apart-requires : tie.Need-is-apart-requires
+is-apart-requires c κs = search needs
+
+get-requires-2 : tie.Need-get-requires-2
+get-requires-2 c κs = search needs
+
+put-requires : tie.Need-put-requires
+put-requires c κs = search needs
+
+get-requires-3 : tie.Need-get-requires-3
+get-requires-3 c κs = search needs
+
+put-requires-2 : tie.Need-put-requires-2
+put-requires-2 c κs = search needs
+
+same-length : tie.Need-same-length
+same-length c = search needs
+
+returns : tie.Need-returns
+returns c =
+    let put2 = c .before .before in
+    let get3 = put2 .before .before in
+    let put = get3 .before .before .before .before in
+    let get2 = put .before .before in
+    let apart = get2 .before .before in
+    let plan = apart .before .before .before .before in
+    let s = plan .before .before .before .before .before .args in
+    subst (GivesFits (s .job .now) (s .area .now) (verdictOf (plan .plan .result)))
+    (sym (again (apart .is-apart .result) (put .put .last .0) (put2 .put2 .last .0) 52 (get3 .get3 .result) (get3 .get3 .ensures) (put2 .put2 .ensures)
+    ∙ again (apart .is-apart .result) (plan .plan .last .1 .0) (put .put .last .0) 40 (get2 .get2 .result) (get2 .get2 .ensures) (put .put .ensures)))
+    (plan .plan .ensures .1 .1 .1 .0)
+
+pub plan-apart-spec : {M : Type 1} → statement M
+plan-apart-spec =
+    tie.close
+    (tie.spec
+    get-requires
+    plan-requires
+    is-apart-requires
+    get-requires-2
+    put-requires
+    get-requires-3
+    put-requires-2
+    same-length
+    returns)

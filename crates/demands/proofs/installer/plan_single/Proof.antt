@@ -1,0 +1,56 @@
+-- `installer::plan_single` keeps the demand: every byte is the planner's.
+use mathlib.Core.Path.{sym, _∙_, subst}
+use borrow.Author.Needs.{needs}
+use Rattle.jobs.specs.Demands.{GivesFits}
+use Rattle.planner.specs.Outcome.{verdictOf}
+use Rattle.demands.proofs.Carried.{again}
+use Rattle.demands.proofs.installer.plan_single.Statement.{statement}
+use Rattle.demands.proofs.installer.plan_single.Tie as tie
+
+plan-requires : tie.Need-plan-requires
+plan-requires c κs = search needs
+
+is-single-requires : tie.Need-is-single-requires
+is-single-requires c κs = search needs
+
+get-requires : tie.Need-get-requires
+get-requires c κs = search needs
+
+put-requires : tie.Need-put-requires
+put-requires c κs = search needs
+
+get-requires-2 : tie.Need-get-requires-2
+get-requires-2 c κs = search needs
+
+put-requires-2 : tie.Need-put-requires-2
+put-requires-2 c κs = search needs
+
+same-length : tie.Need-same-length
+same-length c = search needs
+
+returns : tie.Need-returns
+returns c =
+    let put2 = c .before .before in
+    let get2 = put2 .before .before in
+    let put = get2 .before .before .before .before in
+    let get = put .before .before in
+    let single = get .before .before in
+    let plan = single .before .before .before .before in
+    let s = plan .before .before .before .before .args in
+    subst (GivesFits (s .job .now) (s .area .now) (verdictOf (plan .plan .result)))
+    (sym (again (single .is-single .result) (put .put .last .0) (put2 .put2 .last .0) 40 (get2 .get2 .result) (get2 .get2 .ensures) (put2 .put2 .ensures)
+    ∙ again (single .is-single .result) (plan .plan .last .1 .0) (put .put .last .0) 36 (get .get .result) (get .get .ensures) (put .put .ensures)))
+    (plan .plan .ensures .1 .1 .1 .0)
+
+pub plan-single-spec : {M : Type 1} → statement M
+plan-single-spec =
+    tie.close
+    (tie.spec
+    plan-requires
+    is-single-requires
+    get-requires
+    put-requires
+    get-requires-2
+    put-requires-2
+    same-length
+    returns)
