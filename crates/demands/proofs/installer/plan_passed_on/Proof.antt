@@ -1,5 +1,6 @@
 -- `installer::plan_passed_on` keeps the demand: the answer is the planner's, and so is the area.
 use mathlib.Core.Path.{refl, sym, _∙_, ap}
+use mir.Syntax.{w64}
 use mir.Facts.{toZ-ofZ}
 use borrow.Author.Needs.{needs}
 use Rattle.jobs.specs.Demands.{GivesFits}
@@ -27,7 +28,7 @@ returns : tie.Need-returns
 returns c =
     let plan = c .before .before .before .before .before in
     let s = plan .before .before .before .before .args in
-    passed-on (GivesFits (s .job .now) (s .area .now)) (plan .plan .ensures .1 .1 .1 .0) (c .before .outcome .given .1 ∙ ap Planned (sym (toZ-ofZ (record { sfits = c .known-told .given .0 .1 })))) refl
+    passed-on (GivesFits (s .job .now) (s .area .now)) (plan .plan .ensures .1 .1 .1 .0) (c .before .outcome .given .1 ∙ ap Planned (sym (toZ-ofZ {w = w64} (record { sfits = c .known-told .given .0 .1 })))) refl
 
 same-length-2 : tie.Need-same-length-2
 same-length-2 c = search needs
