@@ -1,6 +1,5 @@
 -- What a job is, when it is turned away, what a plan of it is, and what is demanded of one. Read in this order. To be believed is
--- all of it but the decisions in Decide and Faults, Method, and Vectors, which is theorems. The demands rest on less: on Bytes,
--- Job, Solution and Component without the functions that compute, and on Table.
+-- all of it but the decisions in Decide and Faults, Method, and Vectors, which is theorems.
 
 -- numbers in bytes
 pub mod Bytes
