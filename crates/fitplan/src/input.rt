@@ -9,7 +9,7 @@ use libc::STDIN_FILENO;
 pub type Buffer = [u8; 23577];
 
 /// Reads until the input ends, a read fails or the buffer is full, and gives how many bytes there are.
-pub fn read(b: &mut Buffer) -> usize
+pub(crate) fn read(b: &mut Buffer) -> usize
     ensures { λ r. ⌜ Counts r (now (b .exit)) ⌝ }
 {
     io::read_full(STDIN_FILENO, b)

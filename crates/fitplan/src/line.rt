@@ -6,7 +6,7 @@ pub struct Line {
     len: usize,
 }
 
-pub fn start() -> Line {
+pub(crate) fn start() -> Line {
     Line {
         bytes: [0; 80],
         len: 0,
@@ -25,7 +25,7 @@ impl Line {
         line
     }
 
-    pub fn text(self, s: &[u8]) -> Line {
+    pub(crate) fn text(self, s: &[u8]) -> Line {
         let mut line = self;
         let mut i: usize = 0;
         while i < s.len() {
@@ -35,13 +35,13 @@ impl Line {
         line
     }
 
-    pub fn count(self, n: u64) -> Line {
+    pub(crate) fn count(self, n: u64) -> Line {
         let mut digits = [0u8; 20];
         let many = io::decimal(n, &mut digits);
         self.text(&digits[..many])
     }
 
-    pub fn number(self, x: i64) -> Line {
+    pub(crate) fn number(self, x: i64) -> Line {
         if x < 0 {
             return self.text(b"-").count(ints::size(x));
         }
@@ -49,7 +49,7 @@ impl Line {
     }
 
     /// Writes it, with its end.
-    pub fn end(self) {
+    pub(crate) fn end(self) {
         let line = self.byte(b'\n');
         let bytes = line.bytes;
         write(&bytes, line.len);

@@ -9,7 +9,7 @@ use reasons::Reason;
 /// As long as the longest sheet: 24 + 16·256 + 16·256.
 pub type Area = [u8; 8216];
 
-pub fn show(outcome: Outcome, area: &Area) {
+pub(crate) fn show(outcome: Outcome, area: &Area) {
     match outcome {
         Outcome::Planned(_) => sheet(area),
         Outcome::NoFit(variable) => no_fit(variable),

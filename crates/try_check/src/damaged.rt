@@ -12,7 +12,7 @@ use build::random::next;
 
 const JOBS: u64 = 4000;
 
-pub fn all(b: &mut Buffer) {
+pub(crate) fn all(b: &mut Buffer) {
     print::text(b"damaged jobs ");
     print::count(JOBS);
     print::text(b"\n");

@@ -4,7 +4,7 @@ use build::Buffer;
 use build::Row;
 
 /// A job without a fault: each variable 0..9 with weight 1, each equation 2·c0 − 3·c1 = 1.
-pub fn lawful(b: &mut Buffer, n: u16, m: u16) {
+pub(crate) fn lawful(b: &mut Buffer, n: u16, m: u16) {
     build::header(b, n, m);
     let mut i: u16 = 0;
     while i < n {

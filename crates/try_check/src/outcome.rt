@@ -7,19 +7,19 @@ pub struct Outcome {
     pub row: u16,
 }
 
-pub fn refused(reason: u16, row: u16) -> Outcome {
+pub(crate) fn refused(reason: u16, row: u16) -> Outcome {
     Outcome {
         reason: reason,
         row: row,
     }
 }
 
-pub fn accepted() -> Outcome {
+pub(crate) fn accepted() -> Outcome {
     refused(0, 0)
 }
 
 /// The answer of the job check.
-pub fn of(job: &[u8]) -> Outcome {
+pub(crate) fn of(job: &[u8]) -> Outcome {
     match jobs::check(job) {
         Checked::Accepted => accepted(),
         Checked::Refused(r) => refused(r.number(), r.row()),
@@ -27,14 +27,14 @@ pub fn of(job: &[u8]) -> Outcome {
 }
 
 impl Outcome {
-    pub fn equals(self, other: Outcome) -> bool {
+    pub(crate) fn equals(self, other: Outcome) -> bool {
         if self.reason == other.reason {
             return self.row == other.row;
         }
         false
     }
 
-    pub fn show(self) {
+    pub(crate) fn show(self) {
         if self.reason == 0 {
             print::text(b"accepted");
         } else {

@@ -4,7 +4,7 @@ use crate::outcome;
 use crate::outcome::Outcome;
 
 /// The first line of the table that the job breaks.
-pub fn first(b: &[u8]) -> Outcome {
+pub(crate) fn first(b: &[u8]) -> Outcome {
     if b.len() < 24 {
         return outcome::refused(1, 0);
     }

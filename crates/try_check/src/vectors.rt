@@ -54,7 +54,7 @@ const CONSTANTS: [i64; 7] = [
 ];
 
 /// The last variable's row begins at 48, and the last equation's row at 80.
-pub fn all(b: &mut Buffer) {
+pub(crate) fn all(b: &mut Buffer) {
     first_bytes(b);
     header_bytes(b, 1);
     header_bytes(b, 128);

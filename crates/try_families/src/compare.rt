@@ -17,13 +17,13 @@ pub struct Tally {
     pub differ: u64,
 }
 
-pub fn nothing() -> Tally {
+pub(crate) fn nothing() -> Tally {
     Tally { jobs: 0, differ: 0 }
 }
 
 impl Tally {
     /// With one job more. If it differs, its place among the family's is printed.
-    pub fn judge(self, right: bool) -> Tally {
+    pub(crate) fn judge(self, right: bool) -> Tally {
         if !right {
             print::text(b" differs at ");
             print::count(self.jobs);
@@ -35,7 +35,7 @@ impl Tally {
     }
 
     /// The rest of a family's line, if it has any jobs.
-    pub fn report(self) {
+    pub(crate) fn report(self) {
         if 0 < self.jobs {
             print::text(b" jobs ");
             print::count(self.jobs);
@@ -48,7 +48,7 @@ impl Tally {
 
 /// Is the answer for the job of a line what the line expects: a reason and a row; or four numbers for each variable; or without a bar
 /// what the plain enumeration gives?
-pub fn is_right(b: &mut Buffer, t: Numbers) -> bool {
+pub(crate) fn is_right(b: &mut Buffer, t: Numbers) -> bool {
     let length = job::write(b, t);
     if !t.barred {
         return is_plain(b, length);
@@ -61,7 +61,7 @@ pub fn is_right(b: &mut Buffer, t: Numbers) -> bool {
 }
 
 /// The planner's answer for the first bytes of the buffer.
-pub fn analysed(b: &[u8], length: u32) -> Analysis {
+pub(crate) fn analysed(b: &[u8], length: u32) -> Analysis {
     let end = length as usize;
     if end <= b.len() {
         return planner::analyse(&b[0..end]);
@@ -100,7 +100,7 @@ fn is_named(number: u64, place: u64, reason: u64, row: u64) -> bool {
 }
 
 /// Is the answer for the first bytes of the buffer that of the plain enumeration?
-pub fn is_plain(b: &Buffer, length: u32) -> bool {
+pub(crate) fn is_plain(b: &Buffer, length: u32) -> bool {
     let x = analysed(b, length);
     let labels = plain::labels(b);
     if is_shaped(x, plain::variables(b), plain::groups(b, labels)) {
@@ -110,7 +110,7 @@ pub fn is_plain(b: &Buffer, length: u32) -> bool {
 }
 
 /// Is the job accepted, with so many variables and groups?
-pub fn is_shaped(x: Analysis, n: usize, groups: usize) -> bool {
+pub(crate) fn is_shaped(x: Analysis, n: usize, groups: usize) -> bool {
     if x.variables != n {
         return false;
     }
@@ -199,7 +199,7 @@ fn line_of(t: Numbers, i: usize) -> Line
 }
 
 /// Has variable i this group and run?
-pub fn is_at(s: State, i: usize, l: Line) -> bool {
+pub(crate) fn is_at(s: State, i: usize, l: Line) -> bool {
     if 256 <= i {
         return false;
     }

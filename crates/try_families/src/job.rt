@@ -5,17 +5,17 @@ use build::Buffer;
 use build::Row;
 
 /// How many variables and equations the job of a line has.
-pub fn variable_count(t: Numbers) -> u16 {
+pub(crate) fn variable_count(t: Numbers) -> u16 {
     t.colon / 2
 }
 
-pub fn equation_count(t: Numbers) -> u16 {
+pub(crate) fn equation_count(t: Numbers) -> u16 {
     let end = if t.barred { t.bar } else { t.many };
     std::num::wrapping_sub_u16(end, t.colon) / 5
 }
 
 /// The job of a line. What is given is its length.
-pub fn write(b: &mut Buffer, t: Numbers) -> u32 {
+pub(crate) fn write(b: &mut Buffer, t: Numbers) -> u32 {
     let n = variable_count(t);
     let m = equation_count(t);
     build::header(b, n, m);
@@ -42,7 +42,7 @@ fn equations(b: &mut Buffer, t: Numbers, n: u16, m: u16) {
 }
 
 /// Row k of a line.
-pub fn row_at(t: Numbers, k: u16) -> Row {
+pub(crate) fn row_at(t: Numbers, k: u16) -> Row {
     let at = t.colon as usize + 5 * k as usize;
     Row {
         left: (t.get(at + 1) % 65536) as u16,

@@ -3,7 +3,7 @@
 use crate::table;
 use build::Buffer;
 
-pub fn all(b: &mut Buffer) {
+pub(crate) fn all(b: &mut Buffer) {
     table::run(
         b,
         b"

@@ -9,7 +9,7 @@ use build::Buffer;
 use build::Row;
 use planner::Analysis;
 
-pub fn all(b: &mut Buffer) {
+pub(crate) fn all(b: &mut Buffer) {
     print::text(b"256 variables");
     let t = compare::nothing();
     let t = whole(t, b, false);

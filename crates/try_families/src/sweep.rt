@@ -9,7 +9,7 @@ use small::random;
 
 const JOBS: u64 = 3000;
 
-pub fn all(b: &mut Buffer) {
+pub(crate) fn all(b: &mut Buffer) {
     print::text(b"random");
     compared(b).report();
     let g = counted(b);

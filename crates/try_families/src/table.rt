@@ -7,7 +7,7 @@ use crate::text::Numbers;
 use crate::varied;
 use build::Buffer;
 
-pub fn run(b: &mut Buffer, lines: &[u8]) {
+pub(crate) fn run(b: &mut Buffer, lines: &[u8]) {
     let mut t = compare::nothing();
     let mut s = text::start();
     let mut from: usize = 0;

@@ -25,16 +25,16 @@ pub struct Scan {
 }
 
 impl Numbers {
-    pub fn get(self, i: usize) -> u64 {
+    pub(crate) fn get(self, i: usize) -> u64 {
         if i < 40 { self.at[i] } else { 0 }
     }
 
     /// How many numbers stand after the bar, and number i of them.
-    pub fn expected(self) -> u16 {
+    pub(crate) fn expected(self) -> u16 {
         std::num::wrapping_sub_u16(self.many, self.bar)
     }
 
-    pub fn after(self, i: usize) -> u64 {
+    pub(crate) fn after(self, i: usize) -> u64 {
         if i < 40 {
             self.get(self.bar as usize + i)
         } else {
@@ -71,7 +71,7 @@ impl Numbers {
 }
 
 /// The beginning of a line.
-pub fn start() -> Scan {
+pub(crate) fn start() -> Scan {
     Scan {
         numbers: Numbers {
             at: [0; 40],
@@ -89,7 +89,7 @@ pub fn start() -> Scan {
 
 impl Scan {
     /// After one byte more.
-    pub fn next(self, x: u8) -> Scan {
+    pub(crate) fn next(self, x: u8) -> Scan {
         if b'0' <= x {
             if x <= b'9' {
                 return self.digit(x - b'0');
@@ -123,7 +123,7 @@ impl Scan {
     }
 
     /// At the end of the line.
-    pub fn numbers(self) -> Numbers {
+    pub(crate) fn numbers(self) -> Numbers {
         self.closed().numbers
     }
 

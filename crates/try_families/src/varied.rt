@@ -9,7 +9,7 @@ use build::Buffer;
 use build::Row;
 
 /// The job of a line, with the forms below the end in the place of its last row.
-pub fn forms(t: Tally, b: &mut Buffer, line: Numbers, end: u64) -> Tally {
+pub(crate) fn forms(t: Tally, b: &mut Buffer, line: Numbers, end: u64) -> Tally {
     let length = job::write(b, line);
     let n = job::variable_count(line);
     let k = std::num::wrapping_sub_u16(job::equation_count(line), 1);

@@ -15,7 +15,7 @@ const NO_FIT: u8 = 1;
 
 const REFUSED: u8 = 2;
 
-pub fn planned(worth: u64) -> Answer {
+pub(crate) fn planned(worth: u64) -> Answer {
     Answer {
         kind: PLANNED,
         value: worth,
@@ -23,7 +23,7 @@ pub fn planned(worth: u64) -> Answer {
     }
 }
 
-pub fn no_fit(variable: u16) -> Answer {
+pub(crate) fn no_fit(variable: u16) -> Answer {
     Answer {
         kind: NO_FIT,
         value: variable as u64,
@@ -31,7 +31,7 @@ pub fn no_fit(variable: u16) -> Answer {
     }
 }
 
-pub fn refused(reason: u16, row: u16) -> Answer {
+pub(crate) fn refused(reason: u16, row: u16) -> Answer {
     Answer {
         kind: REFUSED,
         value: reason as u64,
@@ -40,7 +40,7 @@ pub fn refused(reason: u16, row: u16) -> Answer {
 }
 
 /// The planner's own.
-pub fn of(job: &[u8], area: &mut [u8]) -> Answer {
+pub(crate) fn of(job: &[u8], area: &mut [u8]) -> Answer {
     let outcome = planner::plan(job, area);
     match outcome {
         Outcome::Planned(worth) => planned(build::bits(worth)),
@@ -50,11 +50,11 @@ pub fn of(job: &[u8], area: &mut [u8]) -> Answer {
 }
 
 impl Answer {
-    pub fn is_planned(self) -> bool {
+    pub(crate) fn is_planned(self) -> bool {
         self.kind == PLANNED
     }
 
-    pub fn equals(self, other: Answer) -> bool {
+    pub(crate) fn equals(self, other: Answer) -> bool {
         if self.kind != other.kind {
             return false;
         }
@@ -64,7 +64,7 @@ impl Answer {
         self.row == other.row
     }
 
-    pub fn show(self) {
+    pub(crate) fn show(self) {
         let kind = self.kind;
         match kind {
             PLANNED => {

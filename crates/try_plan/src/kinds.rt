@@ -10,13 +10,13 @@ pub struct Counts {
     at: [u64; 12],
 }
 
-pub fn none() -> Counts {
+pub(crate) fn none() -> Counts {
     Counts { at: [0; 12] }
 }
 
 impl Counts {
     /// With one job more.
-    pub fn with(self, b: &Buffer, p: Plan) -> Counts {
+    pub(crate) fn with(self, b: &Buffer, p: Plan) -> Counts {
         let labels = p.labels;
         let n = plain::variables(b);
         let g = plain::groups(b, labels);
@@ -49,7 +49,7 @@ impl Counts {
         counts
     }
 
-    pub fn report(self) {
+    pub(crate) fn report(self) {
         self.line(b"all", 0);
         self.line(b"several groups", 2);
         self.line(b"an untied variable", 4);

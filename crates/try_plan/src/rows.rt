@@ -20,7 +20,7 @@ fn groups(b: &Buffer, labels: Labels) -> u16 {
 }
 
 /// How long the sheet is.
-pub fn length(b: &Buffer, labels: Labels) -> u32
+pub(crate) fn length(b: &Buffer, labels: Labels) -> u32
     ensures { λ r. ⌜ 24 ≤ r ⌝ }
     ensures { λ r. ⌜ r ≤ 2097144 ⌝ }
 {
@@ -28,7 +28,7 @@ pub fn length(b: &Buffer, labels: Labels) -> u32
 }
 
 /// Writes the sheet of a plan, if it has one.
-pub fn write(e: &mut Buffer, b: &Buffer, p: Plan) {
+pub(crate) fn write(e: &mut Buffer, b: &Buffer, p: Plan) {
     let labels = p.labels;
     let best = p.best;
     if p.answer.is_planned() {

@@ -91,7 +91,7 @@ fn worth(b: &Buffer, p: Point) -> u64 {
     sum
 }
 
-pub fn times_weight(b: &Buffer, i: usize, x: u8) -> u64
+pub(crate) fn times_weight(b: &Buffer, i: usize, x: u8) -> u64
     requires { ⌜ i ≤ 5 ⌝ }
 {
     build::bits(byte::combined(plain::weight(b, i), x, 0, 0))
@@ -106,7 +106,7 @@ pub struct Plan {
     pub answer: Answer,
 }
 
-pub fn find(b: &Buffer) -> Plan {
+pub(crate) fn find(b: &Buffer) -> Plan {
     let labels = plain::labels(b);
     let best = best_list(b);
     Plan {

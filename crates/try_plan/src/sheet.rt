@@ -4,7 +4,7 @@ ghost use Prim.Native.Nat.{_≤_};
 use build::Buffer;
 
 /// A pattern in the first bytes, which differs from one start to another.
-pub fn fill(b: &mut Buffer, end: u32, start: u8) {
+pub(crate) fn fill(b: &mut Buffer, end: u32, start: u8) {
     let mut i: u32 = 0;
     while i < end {
         build::store(b, i as usize, build::low(7 * i as u64 + start as u64));
@@ -13,7 +13,7 @@ pub fn fill(b: &mut Buffer, end: u32, start: u8) {
 }
 
 /// How long a sheet is, and with fewer groups where the row of the next one begins.
-pub fn length(n: u16, g: u16) -> u32
+pub(crate) fn length(n: u16, g: u16) -> u32
     ensures { λ r. ⌜ 24 ≤ r ⌝ }
     ensures { λ r. ⌜ r ≤ 2097144 ⌝ }
 {
@@ -21,7 +21,7 @@ pub fn length(n: u16, g: u16) -> u32
 }
 
 /// The header; the worth in two's complement.
-pub fn header(b: &mut Buffer, n: u16, g: u16, worth: u64) {
+pub(crate) fn header(b: &mut Buffer, n: u16, g: u16, worth: u64) {
     build::store(b, 0, b'A');
     build::store(b, 1, b'N');
     build::store(b, 2, b'S');
@@ -34,7 +34,7 @@ pub fn header(b: &mut Buffer, n: u16, g: u16, worth: u64) {
 }
 
 /// The row of variable i: its number, base and step, and the number of its group.
-pub fn variable(b: &mut Buffer, i: u16, number: i64, base: i64, step: i64, group: u16) {
+pub(crate) fn variable(b: &mut Buffer, i: u16, number: i64, base: i64, step: i64, group: u16) {
     let at = length(i, 0);
     build::put(b, at, 4, build::bits(number));
     build::put(b, at + 4, 4, build::bits(base));
@@ -44,7 +44,7 @@ pub fn variable(b: &mut Buffer, i: u16, number: i64, base: i64, step: i64, group
 }
 
 /// The row of a group, behind those of n variables: its fits, the chosen k, and its gain in two's complement.
-pub fn group(b: &mut Buffer, n: u16, group: u16, fits: u64, chosen: u64, gain: u64) {
+pub(crate) fn group(b: &mut Buffer, n: u16, group: u16, fits: u64, chosen: u64, gain: u64) {
     let at = length(n, group);
     build::put(b, at, 4, fits);
     build::put(b, at + 4, 4, chosen);
@@ -52,7 +52,7 @@ pub fn group(b: &mut Buffer, n: u16, group: u16, fits: u64, chosen: u64, gain: u
 }
 
 /// Prints what stands at a byte of an area, in which there is a sheet or nothing is written.
-pub fn show(b: &Buffer, at: u32, written: bool) {
+pub(crate) fn show(b: &Buffer, at: u32, written: bool) {
     let n = byte(b, 4) as u32 + 256 * byte(b, 5) as u32;
     let g = byte(b, 6) as u32 + 256 * byte(b, 7) as u32;
     let groups = 24 + 16 * n;
@@ -69,7 +69,7 @@ pub fn show(b: &Buffer, at: u32, written: bool) {
     }
 }
 
-pub fn byte(b: &Buffer, at: usize) -> u8 {
+pub(crate) fn byte(b: &Buffer, at: usize) -> u8 {
     if at < b.len() { b[at] } else { 0 }
 }
 

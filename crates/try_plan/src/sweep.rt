@@ -14,7 +14,7 @@ use small::random;
 
 const JOBS: u64 = 3000;
 
-pub fn all(b: &mut Buffer, area: &mut Buffer, expected: &mut Buffer) {
+pub(crate) fn all(b: &mut Buffer, area: &mut Buffer, expected: &mut Buffer) {
     let differ = compared(b, area, expected);
     print::text(b"random jobs ");
     print::count(JOBS);

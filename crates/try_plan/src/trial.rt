@@ -14,7 +14,7 @@ pub struct Trial {
     pub start: u8,
 }
 
-pub fn of(job: u64, length: u32, size: u32, start: u8) -> Trial {
+pub(crate) fn of(job: u64, length: u32, size: u32, start: u8) -> Trial {
     Trial {
         job: job,
         length: length,
@@ -25,12 +25,12 @@ pub fn of(job: u64, length: u32, size: u32, start: u8) -> Trial {
 
 impl Trial {
     /// The bytes that are looked at.
-    pub fn end(self) -> u32 {
+    pub(crate) fn end(self) -> u32 {
         self.size as u32 + 16
     }
 
     /// Does the planner answer so for the job in b, and leave in the area what is expected? If not, a line says what differs.
-    pub fn is_right(
+    pub(crate) fn is_right(
         self,
         answer: Answer,
         b: &Buffer,

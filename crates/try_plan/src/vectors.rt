@@ -14,7 +14,7 @@ struct Tally {
     differ: u64,
 }
 
-pub fn all(b: &mut Buffer, area: &mut Buffer, e: &mut Buffer) {
+pub(crate) fn all(b: &mut Buffer, area: &mut Buffer, e: &mut Buffer) {
     let t = small(Tally { jobs: 0, differ: 0 }, b, area, e);
     let t = full(t, b, area, e);
     let t = large(t, b, area, e);

@@ -25,7 +25,7 @@ const RUNS: u64 = 2366;
 // 9 numbers a, 9 numbers b and 19 numbers c; the equations are those where neither a nor b is 0.
 const EQUATIONS: u64 = 1539;
 
-pub fn all(carry: bool) -> Tally {
+pub(crate) fn all(carry: bool) -> Tally {
     if carry {
         cases(true, EQUATIONS)
     } else {

@@ -5,7 +5,7 @@ use crate::task::meet;
 use crate::task::run_of;
 use runs::Run;
 
-pub fn all() {
+pub(crate) fn all() {
     left();
     right();
     constant();

@@ -10,14 +10,14 @@ pub enum Task {
     Carry(Equation),
 }
 
-pub fn ask(task: Task, run: Run) -> Working {
+pub(crate) fn ask(task: Task, run: Run) -> Working {
     match task {
         Task::Meet(other) => runs::meeting(other, run),
         Task::Carry(e) => runs::carrying(e, run),
     }
 }
 
-pub fn run_of(first: i64, step: i64, many: u32) -> Run {
+pub(crate) fn run_of(first: i64, step: i64, many: u32) -> Run {
     Run {
         first: first,
         step: step,
@@ -26,19 +26,19 @@ pub fn run_of(first: i64, step: i64, many: u32) -> Run {
 }
 
 /// A line for a meeting.
-pub fn meet(a: Run, b: Run) {
+pub(crate) fn meet(a: Run, b: Run) {
     show(Task::Meet(a), b);
     print::text(b"\n");
 }
 
 /// A line for a carrying.
-pub fn carry(a: i64, b: i64, c: i64, q: Run) {
+pub(crate) fn carry(a: i64, b: i64, c: i64, q: Run) {
     show(Task::Carry(Equation { a: a, b: b, c: c }), q);
     print::text(b"\n");
 }
 
 /// The arguments and the answer, on a line that is still open.
-pub fn show(task: Task, run: Run) {
+pub(crate) fn show(task: Task, run: Run) {
     match task {
         Task::Meet(other) => {
             print::text(b"meet ");
@@ -56,7 +56,7 @@ pub fn show(task: Task, run: Run) {
 }
 
 /// First, step, how many.
-pub fn show_run(r: Run) {
+pub(crate) fn show_run(r: Run) {
     print::number(r.first);
     print::text(b" ");
     print::number(r.step);

@@ -5,14 +5,14 @@ use crate::task::meet;
 use crate::task::run_of;
 use runs::Run;
 
-pub fn meetings() {
+pub(crate) fn meetings() {
     ends();
     coprime();
     classes();
     few();
 }
 
-pub fn carryings() {
+pub(crate) fn carryings() {
     documents();
     equal_sizes();
     largest();
