@@ -1,4 +1,5 @@
 -- `build::random::below` meets its contract.
+use mathlib.Core.Path.{refl}
 use native.Mathlib.Nat.{mod-lt}
 use native.Mathlib.Omega.{arith}
 use borrow.Author.Needs.{needs}
@@ -9,7 +10,7 @@ rem-result : tie.Need-rem-result
 rem-result c = search needs
 
 returns : tie.Need-returns
-returns c = mod-lt (c .args .x) {m = c .args .limit} (omega arith)
+returns c = (refl, mod-lt (c .args .x) {m = c .args .limit} (omega arith))
 
 pub below-spec : {M : Type 1} → statement M
 below-spec = tie.close (tie.spec rem-result returns)

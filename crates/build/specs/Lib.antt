@@ -1,0 +1,6 @@
+-- What the contracts of this crate cite.
+
+-- numbers: two's complement, and pseudo-random ones
+pub mod Numbers
+-- the parts of a job in the buffer
+pub mod Parts
