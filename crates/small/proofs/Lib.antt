@@ -2,3 +2,7 @@
 
 -- numbers of one byte: differences, products and their sums fit
 pub mod Bytes
+-- what stands at a place
+pub mod Items
+-- how many numbers a variable has
+pub mod Widths

@@ -1,7 +1,11 @@
 //! Document 01's groups and families by plain enumeration, from the job's bytes: for jobs of at most 5 variables, with at most 32,768
 //! points within a group's bounds.
 
+ghost use mathlib.Core.Bool.{cond};
+ghost use mathlib.Core.Path.{_≡_};
 ghost use Prim.Native.Nat.{_≤_};
+ghost use Rattle.build.specs.Parts.{equationRow};
+ghost use Rattle.small.specs.Reading.{itemAt, byteAt, variableCount, lowAt, highAt, weightAt, labelAt, widthAt};
 use crate::byte::combined;
 use crate::byte::gap;
 use crate::byte::signed;
@@ -23,18 +27,22 @@ pub struct Found {
 
 // ---- the job's bytes
 
-fn byte(b: &Buffer, at: usize) -> u8 {
+fn byte(b: &Buffer, at: usize) -> u8
+    ensures { λ r. ⌜ r ≡ byteAt (now (b .entry)) at ⌝ }
+{
     if at < b.len() { b[at] } else { 0 }
 }
 
 /// How many equations there are, and how many variables, as far as this module goes.
 pub fn equations(b: &Buffer) -> usize
+    ensures { λ r. ⌜ r ≡ byteAt (now (b .entry)) 6 ⌝ }
     ensures { λ r. ⌜ r ≤ 255 ⌝ }
 {
     byte(b, 6) as usize
 }
 
 pub fn variables(b: &Buffer) -> usize
+    ensures { λ r. ⌜ r ≡ variableCount (now (b .entry)) ⌝ }
     ensures { λ r. ⌜ r ≤ 5 ⌝ }
 {
     let n = byte(b, 4) as usize;
@@ -43,24 +51,28 @@ pub fn variables(b: &Buffer) -> usize
 
 fn low(b: &Buffer, i: usize) -> u8
     requires { ⌜ i ≤ 5 ⌝ }
+    ensures { λ r. ⌜ r ≡ lowAt (now (b .entry)) i ⌝ }
 {
     byte(b, 24 + 12 * i)
 }
 
 fn high(b: &Buffer, i: usize) -> u8
     requires { ⌜ i ≤ 5 ⌝ }
+    ensures { λ r. ⌜ r ≡ highAt (now (b .entry)) i ⌝ }
 {
     byte(b, 28 + 12 * i)
 }
 
 pub fn weight(b: &Buffer, i: usize) -> u8
     requires { ⌜ i ≤ 5 ⌝ }
+    ensures { λ r. ⌜ r ≡ weightAt (now (b .entry)) i ⌝ }
 {
     byte(b, 32 + 12 * i)
 }
 
 // Where row k begins.
 fn row(b: &Buffer, k: u8) -> usize
+    ensures { λ r. ⌜ r ≡ equationRow (byteAt (now (b .entry)) 4) k ⌝ }
     ensures { λ r. ⌜ r ≤ 10000 ⌝ }
 {
     24 + 12 * byte(b, 4) as usize + 20 * k as usize
@@ -97,7 +109,9 @@ fn passed_on(b: &Buffer, labels: Labels) -> Labels {
     out
 }
 
-pub fn label(labels: Labels, i: usize) -> u8 {
+pub fn label(labels: Labels, i: usize) -> u8
+    ensures { λ r. ⌜ r ≡ labelAt labels i ⌝ }
+{
     if i < 5 { labels[i] } else { 255 }
 }
 
@@ -126,6 +140,7 @@ pub fn groups(b: &Buffer, labels: Labels) -> usize
 }
 
 pub fn one_if(test: bool) -> usize
+    ensures { λ r. ⌜ r ≡ cond test 1 0 ⌝ }
     ensures { λ r. ⌜ r ≤ 1 ⌝ }
 {
     if test { 1 } else { 0 }
@@ -158,7 +173,9 @@ pub struct Point {
 }
 
 impl Point {
-    pub fn get(self, i: usize) -> u8 {
+    pub fn get(self, i: usize) -> u8
+        ensures { λ r. ⌜ r ≡ itemAt 5 0 (self .at) i ⌝ }
+    {
         if i < 5 { self.at[i] } else { 0 }
     }
 }
@@ -186,6 +203,7 @@ pub fn decoded(b: &Buffer, labels: Labels, g: u8, code: u64) -> Point {
 /// How many numbers a variable of the group has. The others stay at their lows.
 pub fn width(b: &Buffer, labels: Labels, g: u8, i: usize) -> u64
     requires { ⌜ i ≤ 5 ⌝ }
+    ensures { λ r. ⌜ r ≡ widthAt (now (b .entry)) labels g i ⌝ }
 {
     if label(labels, i) != g {
         return 1;

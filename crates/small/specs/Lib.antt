@@ -1,0 +1,6 @@
+-- What the contracts of this crate cite.
+
+-- numbers of one byte
+pub mod OneByte
+-- what the plain enumeration reads
+pub mod Reading
