@@ -6,3 +6,7 @@ pub mod Bytes
 pub mod Items
 -- how many numbers a variable has
 pub mod Widths
+-- labels passed on, and counted
+pub mod Grouping
+-- codes, and the rows that hold at a point
+pub mod Points

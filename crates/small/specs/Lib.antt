@@ -4,3 +4,5 @@
 pub mod OneByte
 -- what the plain enumeration reads
 pub mod Reading
+-- groups and families by plain enumeration
+pub mod Enumeration

@@ -4,7 +4,7 @@
 ghost use mathlib.Core.Bool.{cond};
 ghost use mathlib.Core.Path.{_≡_};
 ghost use Prim.Native.Nat.{_≤_};
-ghost use Rattle.build.specs.Parts.{equationRow};
+ghost use Rattle.small.specs.Enumeration.{rowAt, lowerAt, passedOn, rounds, lowestBelow, pointOf, rowHolds, holdFrom};
 ghost use Rattle.small.specs.Reading.{itemAt, byteAt, variableCount, lowAt, highAt, weightAt, labelAt, widthAt};
 use crate::byte::combined;
 use crate::byte::gap;
@@ -72,7 +72,7 @@ pub fn weight(b: &Buffer, i: usize) -> u8
 
 // Where row k begins.
 fn row(b: &Buffer, k: u8) -> usize
-    ensures { λ r. ⌜ r ≡ equationRow (byteAt (now (b .entry)) 4) k ⌝ }
+    ensures { λ r. ⌜ r ≡ rowAt (now (b .entry)) k ⌝ }
     ensures { λ r. ⌜ r ≤ 10000 ⌝ }
 {
     24 + 12 * byte(b, 4) as usize + 20 * k as usize
@@ -82,7 +82,9 @@ fn row(b: &Buffer, k: u8) -> usize
 
 /// Each variable begins with its own number. Along an equation the lower number is taken over, so many times that it can come
 /// from any variable to any other.
-pub fn labels(b: &Buffer) -> Labels {
+pub fn labels(b: &Buffer) -> Labels
+    ensures { λ r. ⌜ r ≡ rounds 5 (now (b .entry)) ⌝ }
+{
     let mut labels: Labels = [0, 1, 2, 3, 4];
     let mut i: u8 = 0;
     while i < 5 {
@@ -93,7 +95,9 @@ pub fn labels(b: &Buffer) -> Labels {
     labels
 }
 
-fn passed_on(b: &Buffer, labels: Labels) -> Labels {
+fn passed_on(b: &Buffer, labels: Labels) -> Labels
+    ensures { λ r. ⌜ r ≡ passedOn (byteAt (now (b .entry)) 6) (now (b .entry)) labels ⌝ }
+{
     let mut out = labels;
     let m = byte(b, 6);
     let mut k: u8 = 0;
@@ -115,7 +119,9 @@ pub fn label(labels: Labels, i: usize) -> u8
     if i < 5 { labels[i] } else { 255 }
 }
 
-fn lowered(labels: Labels, i: usize, x: u8) -> Labels {
+fn lowered(labels: Labels, i: usize, x: u8) -> Labels
+    ensures { λ r. ⌜ r ≡ lowerAt labels i x ⌝ }
+{
     let mut out = labels;
     if x < label(labels, i) {
         if i < 5 {
@@ -127,6 +133,7 @@ fn lowered(labels: Labels, i: usize, x: u8) -> Labels {
 
 /// How many groups.
 pub fn groups(b: &Buffer, labels: Labels) -> usize
+    ensures { λ r. ⌜ r ≡ lowestBelow (variableCount (now (b .entry))) labels ⌝ }
     ensures { λ r. ⌜ r ≤ 5 ⌝ }
 {
     let n = variables(b);
@@ -181,7 +188,9 @@ impl Point {
 }
 
 /// A code has a digit for each variable, the last one's lowest: how far it stands above its low.
-pub fn decoded(b: &Buffer, labels: Labels, g: u8, code: u64) -> Point {
+pub fn decoded(b: &Buffer, labels: Labels, g: u8, code: u64) -> Point
+    ensures { λ r. ⌜ r ≡ pointOf (now (b .entry)) labels g code ⌝ }
+{
     let mut at: [u8; 5] = [0; 5];
     let mut rest = code;
     let mut i = variables(b);
@@ -217,7 +226,9 @@ pub fn width(b: &Buffer, labels: Labels, g: u8, i: usize) -> u64
 }
 
 /// Does every equation of the group hold?
-pub fn holds(b: &Buffer, labels: Labels, g: u8, p: Point) -> bool {
+pub fn holds(b: &Buffer, labels: Labels, g: u8, p: Point) -> bool
+    ensures { λ r. ⌜ r ≡ holdFrom (byteAt (now (b .entry)) 6) 0 (now (b .entry)) labels g p ⌝ }
+{
     let m = byte(b, 6);
     let mut k: u8 = 0;
     while k < m {
@@ -234,6 +245,7 @@ pub fn holds(b: &Buffer, labels: Labels, g: u8, p: Point) -> bool {
 
 fn row_holds(b: &Buffer, at: usize, p: Point) -> bool
     requires { ⌜ at ≤ 10000 ⌝ }
+    ensures { λ r. ⌜ r ≡ rowHolds (now (b .entry)) at p ⌝ }
 {
     let x = p.get(byte(b, at) as usize);
     let y = p.get(byte(b, at + 2) as usize);
