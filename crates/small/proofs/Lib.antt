@@ -10,3 +10,5 @@ pub mod Widths
 pub mod Grouping
 -- codes, and the rows that hold at a point
 pub mod Points
+-- solutions one after the other
+pub mod Families

@@ -7,6 +7,7 @@ use lib.IntN.{ℤ, pos, _+ℤ_, _-ℤ_, _*ℤ_}
 use lib.ListN.{set}
 use Rattle.ints.specs.Equal.{isEqual}
 use Rattle.build.specs.Parts.{equationRow}
+use Rattle.small.specs.declared.plain.Found.{Found}
 use Rattle.small.specs.declared.plain.Point.{Point}
 use Rattle.small.specs.OneByte.{signedOf}
 use Rattle.small.specs.Reading.{itemAt, byteAt, variableCount, lowAt, labelAt, widthAt}
@@ -64,3 +65,24 @@ unfoldable pub holdFrom : ℕ → ℕ → List ℕ → List ℕ → ℕ → Poin
 holdFrom zero k s labels g p = true
 holdFrom (suc n) k s labels g p =
     (not (eqb (labelAt labels (byteAt s (rowAt s k))) g) || rowHolds s (rowAt s k) p) && holdFrom n (k + 1) s labels g p
+
+-- ---- families
+-- before the first solution
+abbrev pub nothing : Found
+nothing = record { first = 0; last = 0; step = pos 0; many = 0; even = true }
+
+-- in one solution more, where the variable is x
+unfoldable pub withOne : Found → ℕ → Found
+withOne f x =
+    let way = signedOf x -ℤ signedOf (f .last) in
+    cond (eqb (f .many) 0) record { first = x; last = x; step = pos 0; many = 1; even = true }
+    (cond (eqb (f .many) 1) record { first = f .first; last = x; step = way; many = 2; even = true }
+    record { first = f .first; last = x; step = f .step; many = (f .many + 1) % 2 ^ 32; even = cond (isEqual way (f .step)) (f .even) false })
+
+-- variable i in the group's solutions, of n codes from one on
+unfoldable pub foundFrom : ℕ → ℕ → List ℕ → List ℕ → ℕ → ℕ → Found → Found
+foundFrom zero code s labels g i f = f
+foundFrom (suc n) code s labels g i f =
+    let p = pointOf s labels g code in
+    cond (p .past) f
+    (foundFrom n (code + 1) s labels g i (cond (holdFrom (byteAt s 6) 0 s labels g p) (withOne f (itemAt 5 0 (p .at) i)) f))

@@ -4,7 +4,7 @@
 ghost use mathlib.Core.Bool.{cond};
 ghost use mathlib.Core.Path.{_≡_};
 ghost use Prim.Native.Nat.{_≤_};
-ghost use Rattle.small.specs.Enumeration.{rowAt, lowerAt, passedOn, rounds, lowestBelow, pointOf, rowHolds, holdFrom};
+ghost use Rattle.small.specs.Enumeration.{rowAt, lowerAt, passedOn, rounds, lowestBelow, pointOf, rowHolds, holdFrom, nothing, withOne, foundFrom};
 ghost use Rattle.small.specs.Reading.{itemAt, byteAt, variableCount, lowAt, highAt, weightAt, labelAt, widthAt};
 use crate::byte::combined;
 use crate::byte::gap;
@@ -156,7 +156,9 @@ pub fn one_if(test: bool) -> usize
 // ---- families
 
 /// Variable i in all solutions of its group, in their order: the number at the group's lowest variable decides first.
-pub fn family(b: &Buffer, labels: Labels, i: usize) -> Found {
+pub fn family(b: &Buffer, labels: Labels, i: usize) -> Found
+    ensures { λ r. ⌜ r ≡ foundFrom 32768 0 (now (b .entry)) labels (labelAt labels i) i nothing ⌝ }
+{
     let g = label(labels, i);
     let mut found = nothing();
     let mut code: u64 = 0;
@@ -252,7 +254,9 @@ fn row_holds(b: &Buffer, at: usize, p: Point) -> bool
     combined(byte(b, at + 4), x, byte(b, at + 8), y) == signed(byte(b, at + 12))
 }
 
-fn nothing() -> Found {
+fn nothing() -> Found
+    ensures { λ r. ⌜ r ≡ nothing ⌝ }
+{
     Found {
         first: 0,
         last: 0,
@@ -264,7 +268,9 @@ fn nothing() -> Found {
 
 impl Found {
     // In one solution more.
-    fn with(self, x: u8) -> Found {
+    fn with(self, x: u8) -> Found
+        ensures { λ r. ⌜ r ≡ withOne self x ⌝ }
+    {
         if self.many == 0 {
             return Found {
                 first: x,
