@@ -4,3 +4,5 @@
 pub mod Numbers
 -- the parts of a job in the buffer
 pub mod Parts
+-- all of them at worked values
+pub mod Values

@@ -43,13 +43,14 @@ lowestBelow zero labels = 0
 lowestBelow (suc n) labels = lowestBelow n labels + cond (eqb (labelAt labels n) n) 1 0
 
 -- ---- points
--- the point of a code, from variable n - 1 down: a digit for each variable, how far it stands above its low
+-- the digits of a code for the variables below n, the last one's lowest: how far each stands above its low
 unfoldable pub decodedFrom : ℕ → List ℕ → List ℕ → ℕ → ℕ → List ℕ → Point
 decodedFrom zero s labels g rest at = record { at = at; past = ltb 0 rest }
 decodedFrom (suc i) s labels g rest at =
     let w = widthAt s labels g i in
     cond (eqb w 0) record { at = at; past = true } (decodedFrom i s labels g (rest / w) (set at i ((lowAt s i + rest % w) % 256)))
 
+-- the point of a code
 abbrev pub pointOf : List ℕ → List ℕ → ℕ → ℕ → Point
 pointOf s labels g code = decodedFrom (variableCount s) s labels g code (0 ∷ 0 ∷ 0 ∷ 0 ∷ 0 ∷ [])
 

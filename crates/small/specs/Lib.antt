@@ -6,3 +6,5 @@ pub mod OneByte
 pub mod Reading
 -- groups and families by plain enumeration
 pub mod Enumeration
+-- all of them at worked values
+pub mod Values
