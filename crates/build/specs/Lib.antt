@@ -1,4 +1,4 @@
--- What the contracts of this crate cite.
+-- What the contracts of this crate cite. It serves the tests alone: no promise of the planner rests on it.
 
 -- numbers: two's complement, and pseudo-random ones
 pub mod Numbers

@@ -1,4 +1,4 @@
--- What the contracts of this crate cite.
+-- What the contracts of this crate cite. It serves the tests alone: no promise of the planner rests on it.
 
 -- numbers of one byte
 pub mod OneByte
