@@ -1,5 +1,6 @@
 -- Document 01, "Wrong plans on the frame": the sham planners, nearest to passing first, and of each that it breaks the demand that
--- is named beside it. Where a theorem is about one job, that job alone refuses the sham.
+-- is named beside it; and three more that break demand 2: groups numbered from 1, two groups with one number, and a refusal for
+-- everybody. Where a theorem is about one job, that job alone refuses the sham.
 use mathlib.Core.Path.{_≡_, refl, sym, _∙_, ap}
 use mathlib.Core.Logic.{_≢_, ⊎-elim}
 use mathlib.Core.Option.{none, some, Option·none-ne-some, Option·some-injective}
@@ -174,8 +175,8 @@ module _ (s area after : List ℕ) (reason row : ℕ) where
   passes ok room p q (r, h) =
       Option·none-ne-some r (sym (fault-none s (short? (jobOf s) area) (accepted-none s ok) (λ l. omega (arith, l, room))) ∙ reported s area r (h .1 .1))
 
-  pub refused-though-it-fits : checked s ≡ accepted → sheetLength (jobOf s) ≤ length area → ¬ GivesFits s area (refused reason row) after
-  refused-though-it-fits ok room d = ⊎-elim (λ (w, e). not-planned e) (λ (l, e). not-noFit e) (d .answered (passes ok room))
+  pub refused-though-accepted : checked s ≡ accepted → sheetLength (jobOf s) ≤ length area → ¬ GivesFits s area (refused reason row) after
+  refused-though-accepted ok room d = ⊎-elim (λ (w, e). not-planned e) (λ (l, e). not-noFit e) (d .answered (passes ok room))
     where
       not-planned : {w : ℤ} → refused reason row ≡ planned w → ⊥
       not-planned e = let z : _≡_ {A = ℕ} 0 1 = cc in omega arith
@@ -205,4 +206,4 @@ refused-noCounts area after reason row room = refused-unread noCounts area after
 
 pub refused-for-all : (area after : List ℕ) (reason row : ℕ) → 24 ≤ length area → ¬ GivesFits noCounts area (refused reason row) after
 unfolding checked jobOf unsigned leads
-refused-for-all area after reason row room = refused-though-it-fits noCounts area after reason row refl room
+refused-for-all area after reason row room = refused-though-accepted noCounts area after reason row refl room
