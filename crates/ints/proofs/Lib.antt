@@ -44,6 +44,8 @@ pub mod Equal
 pub mod Signed
 -- division rounded down
 pub mod Floor
+-- residues, as two's complement has them
+pub mod Residues
 -- the machine's division, and the floor from it
 pub mod Truncated
 -- divisibility

@@ -1,44 +1,22 @@
--- `build::bits` meets its contract.
-use mathlib.Core.Path.{_≡_, refl, sym, _∙_, ap}
-use Prim.Native.Nat.{ℕ, _+_, _≤_, _<_, _%_}
+-- `bits` meets its contract: below 0 the size is taken from 2⁶⁴.
+use mathlib.Core.Path.{_≡_, sym, _∙_, ap}
+use Prim.Native.Nat.{ℕ, _+_, _<_, _%_}
 use borrow.Author.Needs.{needs}
 use mir.Syntax.{w64}
 use mir.Val.{SFits}
 use mir.Facts.{toZ-ofZ}
 use lib.IntN.{natAbs}
 use lib.Signed.{natAbs-le}
-use Rattle.ints.specs.Floor.{floorMod}
-use Rattle.ints.proofs.{ℤ, pos, negsuc, _+ℤ_, _≤ℤ_, _<ℤ_, [], _∷_, arith, lin, lin₀, _&_, facts, signed}
-use Rattle.ints.proofs.Order.{abs-nonpos, lt-true, lt-false}
-use Rattle.ints.proofs.Floor.{div-mod-unique}
+use Rattle.ints.proofs.{ℤ, pos, _≤ℤ_, _<ℤ_, arith}
+use Rattle.ints.proofs.Order.{lt-true, lt-false}
+use Rattle.ints.proofs.Residues.{size-above, residue-below, residue-whole}
+use Rattle.build.specs.Numbers.{residue64}
 use Rattle.build.proofs.bits.Statement.{statement}
 use Rattle.build.proofs.bits.Tie as tie
 
--- d is 2⁶⁴; r and the size of x leave nothing modulo d
-module _ (d : ℕ) (e : d ≡ 18446744073709551616) (x : ℤ) (f : SFits w64 x) where
-  module _ (h : x <ℤ pos 0) where
-    abs : x +ℤ pos (natAbs x) ≡ pos 0
-    abs =
-        let l : x ≤ℤ pos 0 = lin (x ∷ []) h (search facts depth 20) (omega arith) in
-        lin (x ∷ pos (natAbs x) ∷ []) (abs-nonpos x l) (search facts depth 20) (omega arith)
-
-    above : 1 ≤ natAbs x
-    above = lin (x ∷ pos (natAbs x) ∷ []) (h & abs) (search facts depth 20) (omega arith)
-
-    below : natAbs x ≤ 9223372036854775808
-    below = natAbs-le x (f .sfits)
-
-    left : (r : ℕ) → r < 18446744073709551616 → (r + natAbs x) % 18446744073709551616 ≡ 0 → r ≡ natAbs (floorMod x (pos d))
-    left r l m =
-        let s : r + natAbs x ≡ d = omega (arith, above, below, l, m, e) in
-        let ρ = x ∷ pos d ∷ pos r ∷ pos (natAbs x) ∷ [] in
-        ap natAbs (div-mod-unique x (pos d) (negsuc 0) (pos r) (lin ρ e (search facts depth 20) (omega arith)) (lin ρ (s & abs) (search facts depth 20) (omega arith))
-        (lin₀ ρ (search facts depth 20) (omega arith)) (lin ρ (s & above) (search facts depth 20) (omega arith)) .1)
-
-  whole : pos 0 ≤ℤ x → natAbs x ≡ natAbs (floorMod x (pos d))
-  whole h =
-      let ρ = x ∷ pos d ∷ [] in
-      ap natAbs (div-mod-unique x (pos d) (pos 0) x (lin ρ e (search facts depth 20) (omega arith)) (lin₀ ρ (search facts depth 20) (omega arith)) h (lin ρ (e & f) (search signed depth 20) (omega arith)) .1)
+-- what is taken from 2⁶⁴ with its size modulo 2⁶⁴ is what the size leaves of it
+left : (x : ℤ) (r : ℕ) → SFits w64 x → x <ℤ pos 0 → r < 18446744073709551616 → (r + natAbs x) % 18446744073709551616 ≡ 0 → r ≡ residue64 x
+left x r f h l m = residue-below x 18446744073709551616 r h (omega (arith, size-above x h, natAbs-le x (f .sfits), l, m))
 
 size-requires : tie.Need-size-requires
 size-requires c κs = search needs
@@ -51,7 +29,7 @@ returns c =
     let s = c .before .before .before in
     let h : s .args .x <ℤ pos 0 = lt-true (s .args .x) (pos 0) .0 (rw (toZ-ofZ (s .fits .x)) at (c .before .before .if1 .taken)) in
     let k : c .before .size .result ≡ natAbs (s .args .x) = c .before .size .ensures ∙ ap natAbs (toZ-ofZ (s .fits .x)) in
-    left 18446744073709551616 refl (s .args .x) (s .fits .x) h (c .wrapping-sub-u64 .result) (omega arith) (ap (λ n. (c .wrapping-sub-u64 .result + n) % 18446744073709551616) (sym k) ∙ c .wrapping-sub-u64 .ensures)
+    left (s .args .x) (c .wrapping-sub-u64 .result) (s .fits .x) h (omega arith) (ap (λ n. (c .wrapping-sub-u64 .result + n) % 18446744073709551616) (sym k) ∙ c .wrapping-sub-u64 .ensures)
 
 size-requires-2 : tie.Need-size-requires-2
 size-requires-2 c κs = search needs
@@ -60,7 +38,7 @@ returns-2 : tie.Need-returns-2
 returns-2 c =
     let s = c .before .before in
     let h : pos 0 ≤ℤ s .args .x = lt-false (s .args .x) (pos 0) .0 (rw (toZ-ofZ (s .fits .x)) at (c .before .if1 .left)) in
-    c .size2 .ensures ∙ ap natAbs (toZ-ofZ (s .fits .x)) ∙ whole 18446744073709551616 refl (s .args .x) (s .fits .x) h
+    c .size2 .ensures ∙ ap natAbs (toZ-ofZ (s .fits .x)) ∙ residue-whole (s .args .x) 18446744073709551616 h (omega (arith, natAbs-le (s .args .x) (s .fits .x .sfits)))
 
 pub bits-spec : {M : Type 1} → statement M
 bits-spec =
