@@ -35,3 +35,5 @@ pub mod Outcomes
 pub mod Longer
 -- the sham planners of document 01, each refused by the demand that is named beside it
 pub mod Shams
+-- job M by the sentences on groups
+pub mod Examples

@@ -51,7 +51,7 @@ difference left right c = left ∷ 0 ∷ right ∷ 0 ∷ 1 ∷ 0 ∷ 0 ∷ 0 ∷
 
 -- ---- jobs with a fit-out, and their sheets
 -- document 01's job M, with narrower bounds
-abbrev narrowM : List ℕ
+abbrev pub narrowM : List ℕ
 narrowM =
     header 4 2 72 112 ++
     -- 2..5, weight −30
