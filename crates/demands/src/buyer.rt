@@ -2,7 +2,7 @@
 
 ghost use Rattle.jobs.specs.Demands.{CannotBeBettered};
 ghost use Rattle.planner.specs.Outcome.{verdictOf};
-use crate::sheet;
+use crate::rewrite;
 use planner::Outcome;
 
 /// Plans a job: any bytes, and any answer area.
@@ -16,13 +16,13 @@ pub fn plan(job: &[u8], area: &mut [u8]) -> Outcome
 fn plan_rewritten(job: &[u8], area: &mut [u8]) -> Outcome
     ensures { λ r. ⌜ CannotBeBettered (now (job .entry)) (now (area .entry)) (verdictOf r) (now (area .exit)) ⌝ }
 {
-    let low = sheet::get(job, 36);
+    let low = rewrite::get(job, 36);
     let outcome = planner::plan(job, area);
-    let planned = sheet::is_planned(outcome);
-    let first = sheet::get(area, 24);
-    sheet::put(area, planned, 24, first);
-    let apart = sheet::is_apart(outcome, area);
-    let number = sheet::get(area, 40);
-    sheet::put(area, apart, 40, number);
+    let planned = rewrite::is_planned(outcome);
+    let first = rewrite::get(area, 24);
+    rewrite::put(area, planned, 24, first);
+    let apart = rewrite::is_apart(outcome, area);
+    let number = rewrite::get(area, 40);
+    rewrite::put(area, apart, 40, number);
     outcome
 }

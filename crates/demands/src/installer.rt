@@ -2,7 +2,7 @@
 
 ghost use Rattle.jobs.specs.Demands.{GivesFits};
 ghost use Rattle.planner.specs.Outcome.{verdictOf};
-use crate::sheet;
+use crate::rewrite;
 use planner::Outcome;
 use reasons::Reason;
 
@@ -49,11 +49,11 @@ fn plan_single(job: &[u8], area: &mut [u8]) -> Outcome
     ensures { λ r. ⌜ GivesFits (now (job .entry)) (now (area .entry)) (verdictOf r) (now (area .exit)) ⌝ }
 {
     let outcome = planner::plan(job, area);
-    let single = sheet::is_single(outcome, area);
-    let group = sheet::get(area, 36);
-    sheet::put(area, single, 36, group);
-    let fits = sheet::get(area, 40);
-    sheet::put(area, single, 40, fits);
+    let single = rewrite::is_single(outcome, area);
+    let group = rewrite::get(area, 36);
+    rewrite::put(area, single, 36, group);
+    let fits = rewrite::get(area, 40);
+    rewrite::put(area, single, 40, fits);
     outcome
 }
 
@@ -61,12 +61,12 @@ fn plan_single(job: &[u8], area: &mut [u8]) -> Outcome
 fn plan_apart(job: &[u8], area: &mut [u8]) -> Outcome
     ensures { λ r. ⌜ GivesFits (now (job .entry)) (now (area .entry)) (verdictOf r) (now (area .exit)) ⌝ }
 {
-    let low = sheet::get(job, 36);
+    let low = rewrite::get(job, 36);
     let outcome = planner::plan(job, area);
-    let apart = sheet::is_apart(outcome, area);
-    let number = sheet::get(area, 40);
-    sheet::put(area, apart, 40, number);
-    let group = sheet::get(area, 52);
-    sheet::put(area, apart, 52, group);
+    let apart = rewrite::is_apart(outcome, area);
+    let number = rewrite::get(area, 40);
+    rewrite::put(area, apart, 40, number);
+    let group = rewrite::get(area, 52);
+    rewrite::put(area, apart, 52, group);
     outcome
 }

@@ -11,4 +11,4 @@ pub mod installer;
 // no other fit-out of the job is worth more, or as much and comes earlier
 pub mod buyer;
 // bytes of a sheet, for the variants
-mod sheet;
+mod rewrite;

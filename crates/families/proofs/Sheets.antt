@@ -194,7 +194,7 @@ module _ (j : Job) (lawful : LawfulJob j) (full : firstWithout j ≡ none) (w : 
   families-laid : FamiliesOn j after
   families-laid = record {
     number = number-is;
-    families = λ l h. subst (λ g. FamilyOn j l g after) (sym (group-on l (h .variable))) (family-on l (lead-iff j l .0 h));
+    families = λ l h. subst (λ g. FamilyOn j l g after) (sym (group-on l (h .is-variable))) (family-on l (lead-iff j l .0 h));
   }
     where
       number-is : (i : ℕ) → i < n → numberOn after i ≡ baseOn after i +ℤ stepOn after i *ℤ pos (chosenOn j after (groupOn after i))

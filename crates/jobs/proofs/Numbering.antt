@@ -24,8 +24,8 @@ module _ (j : Job) where
 
   pub lead-iff : (l : ℕ) → IsLead j l ↔ (l ∈ leads j)
   lead-iff l = (
-    λ h. in-leads j l .1 (h .variable, omega (arith, h .least (lowest j l) (lowest-joined j l), lowest-le j l)),
-    λ m. let (b, e) = in-leads j l .0 m in record { variable = b; least = λ i s. omega (arith, lowest-least j l i s, e) },
+    λ h. in-leads j l .1 (h .is-variable, omega (arith, h .least (lowest j l) (lowest-joined j l), lowest-le j l)),
+    λ m. let (b, e) = in-leads j l .0 m in record { is-variable = b; least = λ i s. omega (arith, lowest-least j l i s, e) },
   )
 
   -- the group with a number, by its lowest variable
@@ -39,12 +39,12 @@ module _ (j : Job) where
   component-numbers = record {
     together = component-iff j;
     in-order = order;
-    each = λ k. (λ h. (lead k, (lead-at k h .variable, component-at j k h)), λ (i, h). subst (λ g. g < componentCount j) (h .1) (component-below j i (h .0)));
+    each = λ k. (λ h. (lead k, (lead-at k h .is-variable, component-at j k h)), λ (i, h). subst (λ g. g < componentCount j) (h .1) (component-below j i (h .0)));
   }
     where
       -- a lowest variable stands at the place of its group's number
       own : (l : ℕ) → IsLead j l → lead (component j l) ≡ l
-      own l h = component-lead j l (h .variable) ∙ in-leads j l .0 (lead-iff l .0 h) .1
+      own l h = component-lead j l (h .is-variable) ∙ in-leads j l .0 (lead-iff l .0 h) .1
 
       order : (l k : ℕ) → IsLead j l → IsLead j k → l < k → component j l < component j k
       order l k p q h = go (below? (component j l) (component j k)) (ℕ-discrete (component j l) (component j k))
@@ -53,7 +53,7 @@ module _ (j : Job) where
           go (yes d) e = d
           go (no d) (yes e) = absurd (omega (arith, h, sym (own l p) ∙ ap lead e ∙ own k q))
           go (no d) (no e) =
-              let r = rising-at (rising-leads j) (component j k) (component j l) 0 (omega (arith, d, e)) (component-below j l (p .variable)) in
+              let r = rising-at (rising-leads j) (component j k) (component j l) 0 (omega (arith, d, e)) (component-below j l (p .is-variable)) in
               absurd (omega (arith, h, r, own l p, own k q))
 
   -- ---- any numbering
@@ -74,7 +74,7 @@ module _ (j : Job) where
         (λ k. (to k, from k))
       where
         to : (k : ℕ) → k ∈ table (λ k. group (lead k)) (componentCount j) → k ∈ upTo g
-        to k m = let (a, h, e) = in-table (λ k. group (lead k)) (componentCount j) k .0 m in in-upTo g k .1 (f .each k .1 (lead a, (lead-at a h .variable, sym e)))
+        to k m = let (a, h, e) = in-table (λ k. group (lead k)) (componentCount j) k .0 m in in-upTo g k .1 (f .each k .1 (lead a, (lead-at a h .is-variable, sym e)))
 
         from : (k : ℕ) → k ∈ upTo g → k ∈ table (λ k. group (lead k)) (componentCount j)
         from k m =
@@ -97,7 +97,7 @@ module _ (j : Job) where
   pub numbered-by : (g : ℕ) (group : ℕ → ℕ) → g ≡ componentCount j → ((i : ℕ) → i < length (j .variables) → group i ≡ component j i) → Numbered j g group
   numbered-by g group e f = record {
     together = λ i k h l. (λ q. component-iff j i k h l .0 (sym (f i h) ∙ q ∙ f k l), λ s. f i h ∙ component-iff j i k h l .1 s ∙ sym (f k l));
-    in-order = λ l k p q h. omega (arith, f l (p .variable), f k (q .variable), component-numbers .in-order l k p q h);
+    in-order = λ l k p q h. omega (arith, f l (p .is-variable), f k (q .is-variable), component-numbers .in-order l k p q h);
     each = λ k. (
       λ h. let (i, m) = component-numbers .each k .0 (omega (arith, h, e)) in (i, (m .0, f i (m .0) ∙ m .1)),
       λ (i, m). omega (arith, e, f i (m .0), m .1, component-below j i (m .0)),

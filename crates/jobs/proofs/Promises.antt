@@ -24,7 +24,7 @@ use Rattle.jobs.specs.Table.{ShortFor, IsFirst}
 use Rattle.jobs.specs.Faults.{firstBroken}
 use Rattle.jobs.specs.Verdict.{Verdict, planned, noFit, refused, firstWithout, outcome, short?, verdict}
 use Rattle.jobs.specs.Sheet.{laidOut, sheet}
-use Rattle.jobs.specs.Demands.{worthOn, numberOn, numbersOn, TurnsAway, LaidOut, NoneFits, CannotBeBettered, FamiliesOn, Passes, GivesFits}
+use Rattle.jobs.specs.Demands.{worthOn, numberOn, numbersOn, TurnsAway, LaidOut, NoneFits, CannotBeBettered, FamiliesOn, NotTurnedAway, GivesFits}
 use Rattle.jobs.proofs.Faults.{first-by, reported-iff, sound-iff}
 use Rattle.jobs.proofs.Lawful.{LawfulJob, lawful-named, lawful, lawful-job}
 use Rattle.jobs.proofs.Writing.{within-holds}
@@ -200,8 +200,8 @@ module _ (s area : List ℕ) where
   no-fit-only l e = let (o, h) = noFit-when l e in (none-fits (jobOf s) (lawful-of o) l h, if-noFit s area e)
 
   -- a job that is not turned away is planned or has no fit
-  either : Passes s area → ((w : ℤ) × (verdict s area ≡ planned w)) ⊎ ((l : ℕ) × (verdict s area ≡ noFit l))
-  either p = go (verdict s area) refl
+  pub one-of-two : NotTurnedAway s area → ((w : ℤ) × (verdict s area ≡ planned w)) ⊎ ((l : ℕ) × (verdict s area ≡ noFit l))
+  one-of-two p = go (verdict s area) refl
     where
       go : (v : Verdict) → verdict s area ≡ v → ((w : ℤ) × (verdict s area ≡ planned w)) ⊎ ((l : ℕ) × (verdict s area ≡ noFit l))
       go (planned w) e = inl (w, e)
@@ -211,8 +211,8 @@ module _ (s area : List ℕ) where
   -- so of the second only the families are left
   pub gives-fits : ((w : ℤ) → verdict s area ≡ planned w → FamiliesOn (jobOf s) (sheet s area)) → GivesFits s area (verdict s area) (sheet s area)
   gives-fits f = record {
-    answered = either;
-    exists = λ p x h. ⊎-elim (λ d. d) (λ (l, e). absurd (no-fit-only l e .0 .none x h)) (either p);
+    one-of = one-of-two;
+    exists = λ p x h. ⊎-elim (λ d. d) (λ (l, e). absurd (no-fit-only l e .0 .none x h)) (one-of-two p);
     given = λ w e. (given-solution w e, (laid-out w e, f w e));
     no-fit = no-fit-only;
   }

@@ -22,7 +22,7 @@ use Rattle.jobs.specs.Family.{componentJob, fits, base}
 use Rattle.jobs.specs.Faults.{accepted, refused as turned, checked}
 use Rattle.jobs.specs.Verdict.{planned, noFit, refused, firstWithout, short?}
 use Rattle.jobs.specs.Sheet.{answerMark}
-use Rattle.jobs.specs.Demands.{numberOn, groupOn, fitsOn, numbersOn, memberOn, TurnsAway, FamilyOn, Passes, GivesFits, CannotBeBettered}
+use Rattle.jobs.specs.Demands.{numberOn, groupOn, fitsOn, numbersOn, memberOn, TurnsAway, FamilyOn, NotTurnedAway, GivesFits, CannotBeBettered}
 use Rattle.jobs.specs.Vectors.{header, count, difference}
 use Rattle.jobs.proofs.Faults.{fault-checked, fault-none, accepted-none, refused-some}
 use Rattle.jobs.proofs.Solutions.{rising-solutions, in-solutions, best-only}
@@ -171,12 +171,12 @@ no-fit-for-noCounts area after l =
 -- is necessary as well as sufficient)", and so demand 2, where a fit-out is given when one exists
 module _ (s area after : List ℕ) (reason row : ℕ) where
   -- no reason is reported for a job that the check accepts, with room for its sheet
-  passes : checked s ≡ accepted → sheetLength (jobOf s) ≤ length area → Passes s area
-  passes ok room p q (r, h) =
+  not-turned-away : checked s ≡ accepted → sheetLength (jobOf s) ≤ length area → NotTurnedAway s area
+  not-turned-away ok room p q (r, h) =
       Option·none-ne-some r (sym (fault-none s (short? (jobOf s) area) (accepted-none s ok) (λ l. omega (arith, l, room))) ∙ reported s area r (h .1 .1))
 
   pub refused-though-accepted : checked s ≡ accepted → sheetLength (jobOf s) ≤ length area → ¬ GivesFits s area (refused reason row) after
-  refused-though-accepted ok room d = ⊎-elim (λ (w, e). not-planned e) (λ (l, e). not-noFit e) (d .answered (passes ok room))
+  refused-though-accepted ok room d = ⊎-elim (λ (w, e). not-planned e) (λ (l, e). not-noFit e) (d .one-of (not-turned-away ok room))
     where
       not-planned : {w : ℤ} → refused reason row ≡ planned w → ⊥
       not-planned e = let z : _≡_ {A = ℕ} 0 1 = cc in omega arith
@@ -189,7 +189,7 @@ module _ (s area after : List ℕ) (reason row : ℕ) where
 
   -- a job that the check accepts, with room for its sheet, has no reason and row
   pub refused-unread : checked s ≡ accepted → sheetLength (jobOf s) ≤ length area → ¬ TurnsAway s area (refused reason row) after
-  refused-unread ok room d = passes ok room reason row (d .exactly reason row .0 refl)
+  refused-unread ok room d = not-turned-away ok room reason row (d .exactly reason row .0 refl)
 
   -- one that it refuses has its reason and row alone
   pub refused-otherwise : (p q : ℕ) → checked s ≡ turned p q → TurnsAway s area (refused reason row) after → (reason ≡ p) × (row ≡ q)

@@ -27,7 +27,7 @@ Joined j = Chain j (length (j .equations))
 
 -- l is the lowest variable of its group
 pub record IsLead (j : Job) (l : ℕ) : Type 0 where
-  pub variable : l < length (j .variables)
+  pub is-variable : l < length (j .variables)
   pub least : (i : ℕ) → Joined j l i → l ≤ i
 
 -- there are g groups, and `group` gives each variable the number of its own: 0 to g − 1, in the order of their lowest variables

@@ -111,13 +111,13 @@ pub record NoneFits (j : Job) (l : ℕ) : Type 0 where
   pub first : (i : ℕ) → IsLead j i → i < l → (x : List ℤ) × SolvesGroup j i x
 
 -- the job is not turned away: no reason of the table is reported
-abbrev pub Passes : List ℕ → List ℕ → Type 0
-Passes s area = (reason row : ℕ) → ¬ Reported (ShortFor (jobOf s) area) s reason row
+abbrev pub NotTurnedAway : List ℕ → List ℕ → Type 0
+NotTurnedAway s area = (reason row : ℕ) → ¬ Reported (ShortFor (jobOf s) area) s reason row
 
 -- for a job not turned away the verdict is planned or no fit: a fit-out is given when one exists, "no fit" only when none does
 pub record GivesFits (s area : List ℕ) (v : Verdict) (after : List ℕ) : Type 0 where
-  pub answered : Passes s area → ((w : ℤ) × (v ≡ planned w)) ⊎ ((l : ℕ) × (v ≡ noFit l))
-  pub exists : Passes s area → (x : List ℤ) → IsSolution (jobOf s) x → (w : ℤ) × (v ≡ planned w)
+  pub one-of : NotTurnedAway s area → ((w : ℤ) × (v ≡ planned w)) ⊎ ((l : ℕ) × (v ≡ noFit l))
+  pub exists : NotTurnedAway s area → (x : List ℤ) → IsSolution (jobOf s) x → (w : ℤ) × (v ≡ planned w)
   pub given : (w : ℤ) → v ≡ planned w → IsSolution (jobOf s) (numbersOn (jobOf s) after) × (LaidOut (jobOf s) after × FamiliesOn (jobOf s) after)
   pub no-fit : (l : ℕ) → v ≡ noFit l → NoneFits (jobOf s) l × (after ≡ area)
 

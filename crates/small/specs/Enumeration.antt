@@ -10,7 +10,7 @@ use Rattle.build.specs.Parts.{equationRow}
 use Rattle.small.specs.declared.plain.Found.{Found}
 use Rattle.small.specs.declared.plain.Point.{Point}
 use Rattle.small.specs.OneByte.{signedOf}
-use Rattle.small.specs.Reading.{itemAt, byteAt, variableCount, lowAt, labelAt, widthAt}
+use Rattle.small.specs.Reading.{itemAt, byteAt, variablesTaken, lowAt, labelAt, widthAt}
 
 -- where row k of the equations begins
 abbrev pub rowAt : List ℕ → ℕ → ℕ
@@ -52,7 +52,7 @@ decodedFrom (suc i) s labels g rest at =
 
 -- the point of a code
 abbrev pub pointOf : List ℕ → List ℕ → ℕ → ℕ → Point
-pointOf s labels g code = decodedFrom (variableCount s) s labels g code (0 ∷ 0 ∷ 0 ∷ 0 ∷ 0 ∷ [])
+pointOf s labels g code = decodedFrom (variablesTaken s) s labels g code (0 ∷ 0 ∷ 0 ∷ 0 ∷ 0 ∷ [])
 
 -- does the equation of a row hold?
 unfoldable pub rowHolds : List ℕ → ℕ → Point → Bool

@@ -16,8 +16,8 @@ abbrev pub byteAt : List ℕ → ℕ → ℕ
 byteAt s at = itemAt 23608 0 s at
 
 -- how many variables there are, as far as the enumeration goes
-abbrev pub variableCount : List ℕ → ℕ
-variableCount s = min (byteAt s 4) 5
+abbrev pub variablesTaken : List ℕ → ℕ
+variablesTaken s = min (byteAt s 4) 5
 
 -- the low, the high and the weight of variable i: one byte says all of each
 abbrev pub lowAt : List ℕ → ℕ → ℕ

@@ -5,7 +5,7 @@ ghost use mathlib.Core.Bool.{cond};
 ghost use mathlib.Core.Path.{_≡_};
 ghost use Prim.Native.Nat.{_≤_};
 ghost use Rattle.small.specs.Enumeration.{rowAt, lowerAt, passedOn, rounds, lowestBelow, pointOf, rowHolds, holdFrom, nothing, withOne, foundFrom};
-ghost use Rattle.small.specs.Reading.{itemAt, byteAt, variableCount, lowAt, highAt, weightAt, labelAt, widthAt};
+ghost use Rattle.small.specs.Reading.{itemAt, byteAt, variablesTaken, lowAt, highAt, weightAt, labelAt, widthAt};
 use crate::byte::combined;
 use crate::byte::gap;
 use crate::byte::signed;
@@ -42,7 +42,7 @@ pub fn equations(b: &Buffer) -> usize
 }
 
 pub fn variables(b: &Buffer) -> usize
-    ensures { λ r. ⌜ r ≡ variableCount (now (b .entry)) ⌝ }
+    ensures { λ r. ⌜ r ≡ variablesTaken (now (b .entry)) ⌝ }
     ensures { λ r. ⌜ r ≤ 5 ⌝ }
 {
     let n = byte(b, 4) as usize;
@@ -133,7 +133,7 @@ fn lowered(labels: Labels, i: usize, x: u8) -> Labels
 
 /// How many groups.
 pub fn groups(b: &Buffer, labels: Labels) -> usize
-    ensures { λ r. ⌜ r ≡ lowestBelow (variableCount (now (b .entry))) labels ⌝ }
+    ensures { λ r. ⌜ r ≡ lowestBelow (variablesTaken (now (b .entry))) labels ⌝ }
     ensures { λ r. ⌜ r ≤ 5 ⌝ }
 {
     let n = variables(b);

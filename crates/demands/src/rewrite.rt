@@ -4,7 +4,7 @@ ghost use mathlib.Core.Path.{_≡_};
 ghost use mathlib.Core.Bool.{cond};
 ghost use lib.ListN.{getD, set};
 ghost use Rattle.planner.specs.Outcome.{verdictOf};
-ghost use Rattle.demands.specs.Sheet.{isPlanned, isSingle, isApart};
+ghost use Rattle.demands.specs.Rewrite.{isPlanned, isSingle, isApart};
 use planner::Outcome;
 
 // The byte at a place; past the end it is 0.

@@ -1,11 +1,11 @@
--- `sheet::is_apart` meets its contract: the byte that is read decides, where there is a sheet.
+-- `rewrite::is_apart` meets its contract: the byte that is read decides, where there is a sheet.
 use mathlib.Core.Path.{sym, _∙_}
 use mathlib.Core.Bool.{not}
 use lib.Dec.{eqb}
 use borrow.Author.Needs.{needs}
 use Rattle.demands.proofs.Carried.{by-byte}
-use Rattle.demands.proofs.sheet.is_apart.Statement.{statement}
-use Rattle.demands.proofs.sheet.is_apart.Tie as tie
+use Rattle.demands.proofs.rewrite.is_apart.Statement.{statement}
+use Rattle.demands.proofs.rewrite.is_apart.Tie as tie
 
 is-planned-requires : tie.Need-is-planned-requires
 is-planned-requires c κs = search needs

@@ -1,10 +1,10 @@
--- `sheet::is_single` meets its contract: the byte that is read decides, where there is a sheet.
+-- `rewrite::is_single` meets its contract: the byte that is read decides, where there is a sheet.
 use mathlib.Core.Path.{sym, _∙_}
 use lib.Dec.{eqb}
 use borrow.Author.Needs.{needs}
 use Rattle.demands.proofs.Carried.{by-byte}
-use Rattle.demands.proofs.sheet.is_single.Statement.{statement}
-use Rattle.demands.proofs.sheet.is_single.Tie as tie
+use Rattle.demands.proofs.rewrite.is_single.Statement.{statement}
+use Rattle.demands.proofs.rewrite.is_single.Tie as tie
 
 is-planned-requires : tie.Need-is-planned-requires
 is-planned-requires c κs = search needs

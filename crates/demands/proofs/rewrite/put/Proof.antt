@@ -1,4 +1,4 @@
--- `sheet::put` meets its contract: past the end nothing is written.
+-- `rewrite::put` meets its contract: past the end nothing is written.
 use denote.Ref.{now}
 use mathlib.Core.Path.{_≡_, sym, _∙_, ap}
 use mathlib.Core.Bool.{Bool, true, cond}
@@ -8,8 +8,8 @@ use native.Mathlib.Omega.{arith}
 use lib.ListN.{set}
 use lib.Seq.{set-out}
 use borrow.Author.Needs.{needs}
-use Rattle.demands.proofs.sheet.put.Statement.{statement}
-use Rattle.demands.proofs.sheet.put.Tie as tie
+use Rattle.demands.proofs.rewrite.put.Statement.{statement}
+use Rattle.demands.proofs.rewrite.put.Tie as tie
 
 slice-write-area : tie.Need-slice-write-area
 slice-write-area c = search needs

@@ -1,11 +1,11 @@
--- `sheet::get` meets its contract: past the end there is nothing to read.
+-- `rewrite::get` meets its contract: past the end there is nothing to read.
 use denote.Ref.{now}
 use mathlib.Core.Path.{sym}
 use native.Mathlib.Omega.{arith}
 use lib.ListN.{List·getD-eq-default}
 use borrow.Author.Needs.{needs}
-use Rattle.demands.proofs.sheet.get.Statement.{statement}
-use Rattle.demands.proofs.sheet.get.Tie as tie
+use Rattle.demands.proofs.rewrite.get.Statement.{statement}
+use Rattle.demands.proofs.rewrite.get.Tie as tie
 
 shared-slice-read-result : tie.Need-shared-slice-read-result
 shared-slice-read-result c = search needs
