@@ -18,8 +18,9 @@ use Rattle.jobs.specs.declared.Variable.{Variable}
 use Rattle.jobs.specs.Job.{jobOf, variable, variableAt, variableCount, variableRow}
 use Rattle.jobs.proofs.Lawful.{Lawful, variable-of}
 use Rattle.families.proofs.Sizes.{step-within}
-use Rattle.planner.specs.Choices.{groupIn, runIn, Members, NoneEmpty, numberIn, worthOf}
-use Rattle.planner.proofs.Sizes.{fits}
+use Rattle.solver.specs.Arrays.{groupIn, runIn}
+use Rattle.planner.specs.Choices.{Members, NoneEmpty, numberIn, worthOf}
+use Rattle.solver.proofs.Sizes.{fits}
 use Rattle.planner.proofs.Choosing.{number-within}
 
 -- ---- one product more. The locals hold s′, w′ and x′; a product is at most 2,000,000,000,000,000 in size.

@@ -12,7 +12,7 @@ use Rattle.families.specs.Family.{choice}
 use Rattle.families.proofs.Choices.{choice-below}
 use Rattle.families.proofs.Sizes.{member-within}
 use Rattle.planner.specs.Choices.{numberAt}
-use Rattle.planner.proofs.Sizes.{fits}
+use Rattle.solver.proofs.Sizes.{fits}
 
 module _ {r : Run} (f : FamilyRun r) (some : 1 ≤ r .many) (gain : ℤ) where
   pub number-within : Within bound (numberAt r gain)

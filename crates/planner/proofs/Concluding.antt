@@ -29,12 +29,14 @@ use Rattle.families.specs.Family.{familyRun, choice}
 use Rattle.families.specs.Plan.{leadsBy, componentBy, headerRow, variableRow, groupRow, emptyBy, gainBy, chosenBy, numberBy, worthBy, variableRows, groupRows, laidOutBy}
 use Rattle.families.proofs.Exact.{family-run-is, family-form}
 use Rattle.families.proofs.Planned.{leads-by, empty-by, worth-by, laid-by}
-use Rattle.planner.specs.Analysis.{State, Families}
+use Rattle.solver.specs.declared.State.{State}
+use Rattle.solver.specs.Analysis.{Families}
 use Rattle.planner.specs.Area.{over}
-use Rattle.planner.specs.Groups.{Labelled, Lowest}
-use Rattle.planner.specs.Choices.{groupIn, runIn, Members, NoneEmpty, Gains, numberIn, worthOf, variableRowsOf, groupRowOf, groupRowsOf, sheetOf}
+use Rattle.solver.specs.Groups.{Labelled, Lowest}
+use Rattle.solver.specs.Arrays.{groupIn, runIn}
+use Rattle.planner.specs.Choices.{Members, NoneEmpty, Gains, numberIn, worthOf, variableRowsOf, groupRowOf, groupRowsOf, sheetOf}
 use Rattle.planner.specs.Outcome.{worthOfBest, sheetOfBest}
-use Rattle.planner.proofs.Leads.{leads-below}
+use Rattle.solver.proofs.Leads.{leads-below}
 use Rattle.planner.proofs.Overwriting.{over-all}
 
 module _ (s : List ℕ) (z : Lawful s) (x : State) (f : Families (jobOf s) x) where

@@ -14,8 +14,9 @@ use Rattle.runs.specs.declared.Run.{Run}
 use Rattle.families.specs.Family.{choice}
 use Rattle.families.specs.Plan.{leadsBy, headerRow, variableRow, groupRow}
 use Rattle.planner.specs.Area.{over}
-use Rattle.planner.specs.Choices.{groupIn, runIn, numberIn, variableRowsOf, groupRowOf, groupRowsOf}
-use Rattle.planner.proofs.Leads.{leads-none, leads-yes, leads-no}
+use Rattle.solver.specs.Arrays.{groupIn, runIn}
+use Rattle.planner.specs.Choices.{numberIn, variableRowsOf, groupRowOf, groupRowsOf}
+use Rattle.solver.proofs.Leads.{leads-none, leads-yes, leads-no}
 use Rattle.planner.proofs.Overwriting.{over-over, length-over}
 
 -- ---- how wide they are

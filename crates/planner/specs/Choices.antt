@@ -7,21 +7,13 @@ use lib.IntN.{ℤ, pos, _+ℤ_, _*ℤ_}
 use Rattle.lists.specs.Sums.{sum}
 use Rattle.lists.specs.Table.{table, upTo}
 use Rattle.runs.specs.declared.Run.{Run}
-use Rattle.runs.specs.Run.{empty}
 use Rattle.runs.proofs.Turns.{FamilyRun}
 use Rattle.jobs.specs.Job.{Job, variable}
 use Rattle.families.specs.Family.{choice}
 use Rattle.families.specs.Plan.{leadsBy, componentBy, headerRow, variableRow, groupRow, gainBy}
-use Rattle.planner.specs.Arrays.{Holds}
+use Rattle.solver.specs.Arrays.{groupIn, runIn, Holds}
 use Rattle.planner.specs.declared.choose.Found.{Found}
 use Rattle.planner.specs.declared.choose.Found.the-variants.{At, Nothing}
-
--- ---- what the arrays say of a variable
-abbrev pub groupIn : List ℕ → ℕ → ℕ
-groupIn groups i = getD groups i 0
-
-abbrev pub runIn : List Run → ℕ → Run
-runIn runs i = getD runs i empty
 
 -- each run is that of a variable in a family
 pub record Members (runs : List Run) (n : ℕ) : Type 0 where

@@ -2,18 +2,6 @@
 
 -- what the planner's answer says
 pub mod Outcome
--- what the analysis of a job says
-pub mod Analysis
--- what an array holds
-pub mod Arrays
--- the job with other bounds
-pub mod Bounds
--- groups as a list of labels
-pub mod Groups
--- what the program's enums and structs of one step say
-pub mod Steps
--- how large the numbers are
-pub mod Widths
 -- bytes that are written over
 pub mod Area
 -- the choice, and the rows of the sheet

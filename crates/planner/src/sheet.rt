@@ -9,12 +9,13 @@ ghost use Rattle.jobs.specs.Sheet.{answerMark};
 ghost use Rattle.families.specs.Family.{choice};
 ghost use Rattle.families.specs.Plan.{leadsBy, headerRow, variableRow, groupRow};
 ghost use Rattle.planner.specs.Area.{over};
-ghost use Rattle.planner.specs.Groups.{Labelled, Lowest};
-ghost use Rattle.planner.specs.Choices.{groupIn, Members, NoneEmpty, variableRowsOf, groupRowsOf, sheetOf};
+ghost use Rattle.solver.specs.Groups.{Labelled, Lowest};
+ghost use Rattle.solver.specs.Arrays.{groupIn};
+ghost use Rattle.planner.specs.Choices.{Members, NoneEmpty, variableRowsOf, groupRowsOf, sheetOf};
 use crate::bytes;
 use crate::choose;
-use crate::groups;
 use runs::Run;
+use solver::groups;
 
 // The mark of a sheet.
 const MARK: [u8; 4] = *b"ANS1";

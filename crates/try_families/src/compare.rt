@@ -5,11 +5,11 @@ use crate::job;
 use crate::text::Numbers;
 use build::Buffer;
 use jobs::Checked;
-use planner::Analysis;
-use planner::State;
 use small::byte;
 use small::plain;
 use small::plain::Labels;
+use solver::Analysis;
+use solver::State;
 
 /// How many jobs, and how many of them came out other than expected.
 pub struct Tally {
@@ -64,9 +64,9 @@ pub(crate) fn is_right(b: &mut Buffer, t: Numbers) -> bool {
 pub(crate) fn analysed(b: &[u8], length: u32) -> Analysis {
     let end = length as usize;
     if end <= b.len() {
-        return planner::analyse(&b[0..end]);
+        return solver::analyse(&b[0..end]);
     }
-    planner::analyse(b)
+    solver::analyse(b)
 }
 
 fn is_accepted(x: Analysis) -> bool {

@@ -7,7 +7,7 @@ use crate::compare::Line;
 use crate::compare::Tally;
 use build::Buffer;
 use build::Row;
-use planner::Analysis;
+use solver::Analysis;
 
 pub(crate) fn all(b: &mut Buffer) {
     print::text(b"256 variables");
@@ -61,7 +61,7 @@ fn is_chain(x: Analysis, even: Line, odd: Line) -> bool {
     false
 }
 
-fn are_lines(s: planner::State, even: Line, odd: Line) -> bool {
+fn are_lines(s: solver::State, even: Line, odd: Line) -> bool {
     let mut i: usize = 0;
     while i < 256 {
         if !compare::is_at(s, i, if i % 2 == 0 { even } else { odd }) {

@@ -9,10 +9,11 @@ use Rattle.jobs.specs.Job.{jobOf, variableCount, equationCount}
 use Rattle.jobs.specs.Component.{componentCount, sheetLength}
 use Rattle.jobs.specs.Verdict.{planned, verdict}
 use Rattle.jobs.proofs.Components.{length-leads}
-use Rattle.planner.specs.Analysis.{State, Families}
+use Rattle.solver.specs.declared.State.{State}
+use Rattle.solver.specs.Analysis.{Families}
 use Rattle.planner.specs.Choices.{FirstEmpty}
 use Rattle.jobs.proofs.Outcomes.{too-short, no-fit, best-fit}
-use Rattle.planner.proofs.Accepting.{vars, counted, bounded, families}
+use Rattle.solver.proofs.Accepting.{vars, counted, bounded, families}
 use Rattle.planner.proofs.Concluding.{found, full}
 use Rattle.planner.proofs.fitted.Statement.{statement}
 use Rattle.planner.proofs.fitted.Tie as tie

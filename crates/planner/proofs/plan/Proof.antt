@@ -11,7 +11,7 @@ use Rattle.jobs.specs.Demands.{TurnsAway, GivesFits, CannotBeBettered}
 use Rattle.jobs.proofs.Outcomes.{as-checked}
 use Rattle.jobs.proofs.Promises.{turns-away, cannot-be-bettered}
 use Rattle.families.proofs.Sheets.{definitions-give-fits}
-use Rattle.planner.proofs.Accepting.{accepts}
+use Rattle.solver.proofs.Accepting.{accepts}
 use Rattle.planner.proofs.plan.Statement.{statement}
 use Rattle.planner.proofs.plan.Tie as tie
 

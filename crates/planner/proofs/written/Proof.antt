@@ -9,7 +9,7 @@ use Rattle.jobs.specs.Verdict.{planned}
 use Rattle.jobs.proofs.Lawful.{variables-of}
 use Rattle.planner.specs.Area.{over}
 use Rattle.planner.specs.Choices.{worthOf, sheetOf}
-use Rattle.planner.proofs.Sizes.{fits}
+use Rattle.solver.proofs.Sizes.{fits}
 use Rattle.planner.proofs.Adding.{n-at-most, worth-within}
 use Rattle.planner.proofs.Concluding.{labels, labelled, members, counted, worth-best, area-best}
 use Rattle.planner.proofs.written.Statement.{statement}

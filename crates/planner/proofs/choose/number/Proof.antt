@@ -13,7 +13,7 @@ use Rattle.runs.proofs.Turns.{FamilyRun}
 use Rattle.families.specs.Family.{choice}
 use Rattle.families.proofs.Choices.{choice-below}
 use Rattle.families.proofs.Sizes.{member-within, step-within, many-within}
-use Rattle.planner.proofs.Sizes.{fits, held-first, held-step, crossable}
+use Rattle.solver.proofs.Sizes.{fits, held-first, held-step, crossable}
 use Rattle.planner.proofs.choose.number.Statement.{statement}
 use Rattle.planner.proofs.choose.number.Tie as tie
 

@@ -12,8 +12,9 @@ use Rattle.lists.specs.Sums.{sum}
 use Rattle.ints.specs.Within.{Within}
 use Rattle.ints.proofs.Signed.{held}
 use Rattle.jobs.specs.Job.{jobOf, variable}
-use Rattle.planner.specs.Choices.{groupIn, runIn, numberAt, numberIn, worthOf}
-use Rattle.planner.proofs.Sizes.{held-element}
+use Rattle.solver.specs.Arrays.{groupIn, runIn}
+use Rattle.planner.specs.Choices.{numberAt, numberIn, worthOf}
+use Rattle.solver.proofs.Sizes.{held-element}
 use Rattle.planner.proofs.Choosing.{held-number}
 use Rattle.planner.proofs.Adding.{fits-product, fits-total, total-is, n-at-most, variable-asked, weight-within, held-weight, numbers-within, worth-next, worth-within}
 use Rattle.planner.proofs.choose.worth.Statement.{statement}

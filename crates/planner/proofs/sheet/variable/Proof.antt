@@ -13,7 +13,7 @@ use Rattle.families.specs.Plan.{variableRow}
 use Rattle.families.proofs.Sizes.{first-within, step-within}
 use Rattle.planner.specs.Area.{over}
 use Rattle.planner.proofs.Overwriting.{over-same, Written, behind-it, length-bytesOf, length-signedBytes}
-use Rattle.planner.proofs.Sizes.{held-first, held-step, crossable}
+use Rattle.solver.proofs.Sizes.{held-first, held-step, crossable}
 use Rattle.planner.proofs.sheet.variable.Statement.{statement}
 use Rattle.planner.proofs.sheet.variable.Tie as tie
 

@@ -8,8 +8,9 @@ use Rattle.families.specs.Plan.{variableRow}
 use Rattle.planner.specs.Area.{over}
 use lib.IntN.{pos}
 use Rattle.ints.specs.Within.{Within}
-use Rattle.planner.specs.Choices.{groupIn, runIn, numberAt, variableRowsOf}
-use Rattle.planner.proofs.Sizes.{held-element}
+use Rattle.solver.specs.Arrays.{groupIn, runIn}
+use Rattle.planner.specs.Choices.{numberAt, variableRowsOf}
+use Rattle.solver.proofs.Sizes.{held-element}
 use Rattle.planner.proofs.Choosing.{number-within, held-number}
 use Rattle.planner.proofs.Overwriting.{over-none, over-same}
 use Rattle.planner.proofs.Laying.{laid, laid-length, variables-none, variables-next, length-variables}

@@ -13,9 +13,10 @@ use Rattle.lists.proofs.Table.{table-at}
 use Rattle.runs.specs.declared.Run.{Run}
 use Rattle.families.specs.Plan.{leadsBy, componentBy, headerRow}
 use Rattle.planner.specs.Area.{over}
-use Rattle.planner.specs.Arrays.{Holds}
-use Rattle.planner.specs.Choices.{groupIn, variableRowsOf, groupRowsOf, sheetOf}
-use Rattle.planner.proofs.Leads.{leads-length}
+use Rattle.solver.specs.Arrays.{Holds}
+use Rattle.solver.specs.Arrays.{groupIn}
+use Rattle.planner.specs.Choices.{variableRowsOf, groupRowsOf, sheetOf}
+use Rattle.solver.proofs.Leads.{leads-length}
 use Rattle.planner.proofs.Overwriting.{over-same, over-lent, Written, behind-it, length-over}
 use Rattle.planner.proofs.Laying.{length-headerRow, variables-same, length-variables, length-groups}
 use Rattle.planner.proofs.sheet.write.Statement.{statement}

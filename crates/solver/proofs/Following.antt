@@ -1,0 +1,123 @@
+-- The same of a job's bytes with other bounds: what the loop over its equations asks of each step, and what it keeps.
+use mathlib.Core.Path.{_≡_, refl, sym, _∙_, ap, subst}
+use mathlib.Core.Option.{Option, none, some}
+use mathlib.Core.List.{List}
+use Prim.Native.Nat.{ℕ, suc, _<_}
+use native.Mathlib.Omega.{arith}
+use lib.ListN.{length, getD}
+use Rattle.runs.specs.declared.Run.{Run}
+use Rattle.runs.specs.Run.{empty, full}
+use Rattle.runs.specs.Search.{meet}
+use Rattle.runs.specs.Workings.{InLimits}
+use Rattle.runs.proofs.Turns.{FamilyRun}
+use Rattle.jobs.specs.declared.Equation.{Equation}
+use Rattle.jobs.specs.Job.{Job, jobOf, equationRow, equationFrom, form, variable, equation, noEquation}
+use Rattle.jobs.proofs.Lawful.{LawfulJob, lawful-job, variables-of, equations-of}
+use Rattle.jobs.specs.Component.{lowest}
+use Rattle.families.specs.Family.{familyRun}
+use Rattle.families.specs.Model.{Indices as Pair, interval, kept}
+use Rattle.solver.specs.declared.join.Indices.{Indices}
+use Rattle.solver.specs.Analysis.{Families}
+use Rattle.solver.specs.Bounds.{Bounds, withBounds, BoundedBy, Begins}
+use Rattle.solver.specs.Groups.{Labelled, Merges, Apart}
+use Rattle.solver.specs.Steps.{indicesBy, Reducible, Reduces}
+use Rattle.solver.proofs.Rows.{Sizes, n-most, row-is}
+use Rattle.solver.proofs.Rebounding.{same-length, same-equations, variable-with, lawful-with}
+use Rattle.solver.proofs.Stepping as stepping
+
+-- what is known at equation k, whose row is e
+pub record At (s : List ℕ) (n m : ℕ) (b : List Bounds) (k : ℕ) (groups : List ℕ) (runs : List Run) (e : Equation) : Type 0 where
+  pub sizes : Sizes s n m
+  pub bounded : BoundedBy b n
+  pub below : k < m
+  pub follows : stepping.Follows (withBounds (jobOf s) b) k groups runs
+  pub row : e ≡ equationFrom s (equationRow n k)
+
+module _ {s : List ℕ} {n m : ℕ} (z : Sizes s n m) (b : List Bounds) (o : BoundedBy b n) where
+  abbrev job : Job
+  job = withBounds (jobOf s) b
+
+  vars : length (jobOf s .variables) ≡ n
+  vars = variables-of s ∙ sym (z .1 .0)
+
+  n-is : length (job .variables) ≡ n
+  n-is = same-length (jobOf s) b ∙ vars
+
+  m-is : length (job .equations) ≡ m
+  m-is = ap length (same-equations (jobOf s) b) ∙ equations-of s ∙ sym (z .1 .1)
+
+  lawful : LawfulJob job
+  lawful = lawful-with (jobOf s) b (lawful-job s (z .0)) (subst (BoundedBy b) (sym vars) o)
+
+  -- before any equation
+  pub follows-start : (groups : List ℕ) (runs : List Run) → Apart groups → Begins b n runs → stepping.Follows job 0 groups runs
+  follows-start groups runs a e =
+      stepping.follows-start job lawful groups runs
+      (λ i h. a .at i (omega (arith, n-is, n-most z))) (λ i h. at i (omega (arith, n-is)))
+    where
+      at : (i : ℕ) → i < n → getD runs i empty ≡ meet full (interval (variable job i .low) (variable job i .high))
+      at i h = e .at i h ∙ rw (variable-with (jobOf s) b i (omega (arith, vars))) refl
+
+  -- after all of them
+  pub follows-end : (groups : List ℕ) (runs : List Run) → stepping.Follows job m groups runs → Families job (record { groups = groups; runs = runs })
+  follows-end groups runs f = record { group = λ i h. at i h .0; run = λ i h. at i h .1 }
+    where
+      at : (i : ℕ) → i < length (job .variables) → (getD groups i 0 ≡ lowest job i) × (getD runs i empty ≡ familyRun job i)
+      at = stepping.follows-end job lawful groups runs (subst (λ m. stepping.Follows job m groups runs) (sym m-is) f)
+
+-- ---- one equation more
+module _ {s : List ℕ} {n m : ℕ} {b : List Bounds} {k : ℕ} {groups : List ℕ} {runs : List Run} {e : Equation} (a : At s n m b k groups runs e) where
+  abbrev with : Job
+  with = withBounds (jobOf s) b
+
+  is-lawful : LawfulJob with
+  is-lawful = lawful (a .sizes) b (a .bounded)
+
+  n-there : length (with .variables) ≡ n
+  n-there = n-is (a .sizes) b (a .bounded)
+
+  below : k < length (with .equations)
+  below = omega (arith, a .below, m-is (a .sizes) b (a .bounded))
+
+  is : e ≡ equation with k
+  is = row-is (a .sizes) k (a .below) e (a .row) ∙ ap (λ es. getD es k noEquation) (sym (same-equations (jobOf s) b))
+
+  pub limits : InLimits (form e)
+  limits = stepping.limits with is-lawful k below groups runs (a .follows) e is
+
+  pub left-family : FamilyRun (getD runs (e .left) empty)
+  left-family = stepping.left-family with is-lawful k below groups runs (a .follows) e is
+
+  pub right-family : FamilyRun (getD runs (e .right) empty)
+  right-family = stepping.right-family with is-lawful k below groups runs (a .follows) e is
+
+  pub labelled : Labelled groups n
+  labelled = subst (Labelled groups) n-there (stepping.labelled with is-lawful k below groups runs (a .follows) e is)
+
+  abbrev l : ℕ
+  l = getD groups (e .left) 0
+
+  abbrev r : ℕ
+  r = getD groups (e .right) 0
+
+  pub left-label : l < n
+  left-label = omega (arith, n-there, stepping.left-label with is-lawful k below groups runs (a .follows) e is)
+
+  pub right-label : r < n
+  right-label = omega (arith, n-there, stepping.right-label with is-lawful k below groups runs (a .follows) e is)
+
+  -- what the model keeps here
+  abbrev pub keeps : Option Pair
+  keeps = kept (form e) l r (getD runs (e .left) empty) (getD runs (e .right) empty)
+
+  pub follows-same : none ≡ keeps → stepping.Follows with (suc k) groups runs
+  follows-same = stepping.follows-same with is-lawful k below groups runs (a .follows) e is
+
+  module _ (i : Indices) (q : some (indicesBy i) ≡ keeps) where
+    pub reducible : Reducible runs groups l r i n
+    reducible = subst (Reducible runs groups l r i) n-there (stepping.reducible with is-lawful k below groups runs (a .follows) e is i q)
+
+    pub follows-reduced : (groups′ : List ℕ) (runs′ : List Run) → Merges groups l r n groups′ → Reduces runs groups l r i n runs′ → stepping.Follows with (suc k) groups′ runs′
+    follows-reduced groups′ runs′ m c =
+        stepping.follows-reduced with is-lawful k below groups runs (a .follows) e is i q groups′ runs′
+        (subst (λ n. Merges groups l r n groups′) (sym n-there) m) (subst (λ n. Reduces runs groups l r i n runs′) (sym n-there) c)

@@ -1,0 +1,82 @@
+-- `leaves` meets its contract: it is `kept` of the model.
+use mathlib.Core.Path.{_≡_, sym, _∙_, ap}
+use mathlib.Core.Bool.{true, false, not}
+use mathlib.Core.Option.{Option, some}
+use Prim.Native.Nat.{ℕ}
+use borrow.Author.Needs.{needs}
+use lib.Dec.{eqb, ltb}
+use Rattle.runs.specs.declared.Run.{Run}
+use Rattle.runs.specs.declared.Equation.{Equation}
+use Rattle.runs.specs.Search.{meet, carry}
+use Rattle.runs.specs.Workings.{InLimits}
+use Rattle.runs.proofs.Turns.{FamilyRun, upward}
+use Rattle.families.specs.Model.{Indices, both, cycle, join, kept}
+use Rattle.families.proofs.Crossings.{common-is}
+use Rattle.solver.specs.declared.cycle.Remains.{Remains}
+use Rattle.solver.specs.declared.cycle.Remains.the-variants.{All, At}
+use Rattle.solver.specs.Steps.{remainsBy, indicesBy}
+use Rattle.solver.proofs.Joining.{apart-told, together-told}
+use Rattle.solver.proofs.equations.leaves.Statement.{statement}
+use Rattle.solver.proofs.equations.leaves.Tie as tie
+
+module _ (e : Equation) (l r : ℕ) (P Q : Run) where
+  -- between two groups
+  apart : InLimits e → FamilyRun P → FamilyRun Q → not (eqb l r) ≡ true → (i : Indices) →
+      i ≡ join e P Q (meet (upward P) (carry (e .a) (e .b) (e .c) (upward Q))) (ltb l r) → some i ≡ kept e l r P Q
+  unfolding kept
+  apart lim f g t i h = rw (apart-told (eqb l r) t, common-is lim f g) (ap some h)
+
+  -- inside one
+  together : not (eqb l r) ≡ false → (o : Option Run) → o ≡ cycle e P Q → both o ≡ kept e l r P Q
+  unfolding kept
+  together t o h = rw (together-told (eqb l r) t) (ap both h)
+
+joins-requires : tie.Need-joins-requires
+joins-requires c κs = search needs
+
+between-requires : tie.Need-between-requires
+between-requires c κs = search needs
+
+returns : tie.Need-returns
+returns c =
+    let s = c .before .before .before in
+    apart (s .args .e) (s .args .l) (s .args .r) (s .args .p) (s .args .q) (s .pre .0) (s .pre .1 .0) (s .pre .1 .1)
+    (sym (c .before .before .joins .ensures) ∙ c .before .if1 .taken) (indicesBy (c .between .result)) (c .between .ensures)
+
+inside-requires : tie.Need-inside-requires
+inside-requires c κs = search needs
+
+enum-told : tie.Need-enum-told
+enum-told c = search needs
+
+enum-known-remains : tie.Need-enum-known-remains
+enum-known-remains c = search needs
+
+-- after the call, which gives x
+module _ (c : tie.After-inside) where
+  abbrev s : tie.Start
+  s = c .before .before .before
+
+  inside-is : (x : Remains) → c .inside .result ≡ x → both (remainsBy x) ≡ kept (s .args .e) (s .args .l) (s .args .r) (s .args .p) (s .args .q)
+  inside-is x e =
+      together (s .args .e) (s .args .l) (s .args .r) (s .args .p) (s .args .q)
+      (sym (c .before .before .joins .ensures) ∙ c .before .if1 .left) (remainsBy x) (ap remainsBy (sym e) ∙ c .inside .ensures)
+
+returns-2 : tie.Need-returns-2
+returns-2 c = inside-is (c .before .before) All (c .enum-told .given .1)
+
+returns-3 : tie.Need-returns-3
+returns-3 c = inside-is (c .before .before .before) (At (c .before .remains .given .0 .0)) (c .before .remains .given .1)
+
+pub leaves-spec : {M : Type 1} → statement M
+leaves-spec =
+    tie.close
+    (tie.spec
+    joins-requires
+    between-requires
+    returns
+    inside-requires
+    enum-told
+    enum-known-remains
+    returns-2
+    returns-3)
