@@ -18,11 +18,11 @@ use Rattle.runs.proofs.Turns.{FamilyRun}
 use Rattle.jobs.specs.Job.{Job}
 use Rattle.jobs.specs.Solution.{number, IsSolution, solutions}
 use Rattle.jobs.specs.Component.{lowest, leads}
-use Rattle.jobs.specs.Family.{componentJob, fits, base, advance, step}
+use Rattle.jobs.specs.Family.{componentJob, fits, base, advance, step, familyRun}
 use Rattle.jobs.proofs.Lawful.{LawfulJob}
 use Rattle.jobs.proofs.Components.{in-leads, lowest-le, lowest-self}
 use Rattle.jobs.proofs.Assembly.{component-length, fits-iff}
-use Rattle.families.specs.Family.{member, IsFamily, familyRun}
+use Rattle.families.specs.Family.{member, IsFamily}
 use Rattle.families.specs.Model.{State, groupAt, runAt, families}
 use Rattle.families.specs.Invariant.{Invariant}
 use Rattle.families.proofs.Invariants.{invariant}

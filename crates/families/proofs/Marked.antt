@@ -4,23 +4,22 @@
 use mathlib.Core.Path.{_≡_, refl, sym, _∙_, ap}
 use mathlib.Core.Option.{none}
 use mathlib.Core.List.{List, [], _++_, map}
-use Prim.Native.Nat.{ℕ, _+_, _≤_, _<_}
+use Prim.Native.Nat.{ℕ, _≤_, _<_}
 use native.Mathlib.Omega.{arith}
 use lib.ListN.{length, drop}
 use Rattle.lists.specs.Members.{_∈_}
-use Rattle.lists.specs.Table.{table}
 use Rattle.lists.proofs.Maps.{same-values}
-use Rattle.lists.proofs.Table.{length-table}
 use Rattle.runs.specs.declared.Run.{Run}
 use Rattle.jobs.specs.Job.{Job, jobOf}
 use Rattle.jobs.specs.Component.{sheetLength}
 use Rattle.jobs.specs.Faults.{Answer, accepted, checked}
-use Rattle.jobs.specs.Verdict.{Verdict, planned, noFit, refused, short?, verdict}
-use Rattle.jobs.specs.Sheet.{sheet}
+use Rattle.jobs.specs.Findings.{Findings}
+use Rattle.jobs.specs.Verdict.{Verdict, planned, noFit, refused, outcome, short?, verdict}
+use Rattle.jobs.specs.Sheet.{laidOut, areaAfter, sheet}
 use Rattle.jobs.proofs.Faults.{accepted-none, fault-none}
 use Rattle.jobs.proofs.Outcomes.{too-short}
 use Rattle.families.specs.Model.{groupAt, runAt, families}
-use Rattle.families.specs.Plan.{emptyBy, worthBy, laidOutBy, outcomeBy, verdictBy, written, sheetBy}
+use Rattle.families.specs.Plan.{emptyBy, worthBy, modelFindings, verdictBy, sheetBy}
 use Rattle.families.specs.Vectors.{Worked, after, markedJobs}
 use Rattle.families.proofs.Planned.{verdict-by, sheet-by}
 
@@ -31,10 +30,11 @@ bytesFor (planned worth) laid = laid
 bytesFor (noFit l) laid = []
 bytesFor (refused reason row) laid = []
 
-written-is : (v : Verdict) (laid area : List ℕ) → written v laid area ≡ bytesFor v laid ++ drop (length (bytesFor v laid)) area
-written-is (planned worth) laid area = refl
-written-is (noFit l) laid area = refl
-written-is (refused reason row) laid area = refl
+after-is : (v : Verdict) (f : Findings) (area : List ℕ) → areaAfter f v area ≡ bytesFor v (laidOut f) ++ drop (length (bytesFor v (laidOut f))) area
+unfolding areaAfter
+after-is (planned worth) f area = refl
+after-is (noFit l) f area = refl
+after-is (refused reason row) f area = refl
 
 module _ (s : List ℕ) where
   abbrev j : Job
@@ -48,21 +48,21 @@ module _ (s : List ℕ) where
 
   -- what the model gives where the area is long enough, whatever stands in it
   abbrev modelVerdict : Verdict
-  modelVerdict = outcomeBy none (emptyBy j g r) (worthBy j g r)
+  modelVerdict = outcome none (emptyBy j g r) (worthBy j g r)
 
   abbrev modelBytes : List ℕ
-  modelBytes = bytesFor modelVerdict (laidOutBy j g r)
+  modelBytes = bytesFor modelVerdict (laidOut (modelFindings j))
 
   module _ (ok : checked s ≡ accepted) (area : List ℕ) where
     by-model : sheetLength j ≤ length area → verdictBy s area ≡ modelVerdict
     unfolding verdictBy
-    by-model h = ap (λ o. outcomeBy o (emptyBy j g r) (worthBy j g r)) (fault-none s (short? j area) (accepted-none s ok) (λ l. omega arith))
+    by-model h = ap (λ o. outcome o (emptyBy j g r) (worthBy j g r)) (fault-none s (short? j area) (accepted-none s ok) (λ l. omega arith))
 
     long-enough : sheetLength j ≤ length area → (verdict s area ≡ modelVerdict) × (sheet s area ≡ modelBytes ++ drop (length modelBytes) area)
     unfolding sheetBy
     long-enough h = (
       sym (verdict-by s area) ∙ by-model h,
-      sym (sheet-by s area) ∙ ap (λ v. written v (laidOutBy j g r) area) (by-model h) ∙ written-is modelVerdict (laidOutBy j g r) area,
+      sym (sheet-by s area) ∙ ap (λ v. areaAfter (modelFindings j) v area) (by-model h) ∙ after-is modelVerdict (modelFindings j) area,
     )
 
 -- ---- of the ten
@@ -97,17 +97,3 @@ marked-jobs v m area h =
 pub marked-short : (v : Worked) → v ∈ markedJobs → (area : List ℕ) → length area < sheetLength (jobOf (v .job)) →
     (verdict (v .job) area ≡ refused 8 0) × (sheet (v .job) area ≡ area)
 marked-short v m area h = too-short (v .job) area (accepts v m) h
-
--- five bytes more than the sheet takes, 100, 101, 102 and so on: the last five are as lent
-abbrev lent : ℕ → List ℕ
-lent n = table (λ i. 100 + i) n
-
-kept-computed : map (λ v. drop (v .room) (after v (lent (v .room + 5)))) markedJobs ≡ map (λ v. table (λ i. 100 + v .room + i) 5) markedJobs
-unfolding table
-kept-computed = refl
-
-pub marked-kept : (v : Worked) → v ∈ markedJobs → drop (v .room) (sheet (v .job) (lent (v .room + 5))) ≡ table (λ i. 100 + v .room + i) 5
-marked-kept v m =
-    let h : sheetLength (jobOf (v .job)) ≤ length (lent (v .room + 5)) = omega (arith, marked-room v m, length-table (λ i. 100 + i) (v .room + 5)) in
-    ap (drop (v .room)) (marked-jobs v m (lent (v .room + 5)) h .1)
-    ∙ same-values (λ v. drop (v .room) (after v (lent (v .room + 5)))) (λ v. table (λ i. 100 + v .room + i) 5) kept-computed m

@@ -1,10 +1,10 @@
 -- The planner's last steps are the definitions: where each variable's label and run are those of the definitions, so are the
--- choices, the worth and the bytes that are made of them; and the model's own verdict and sheet are `verdict` and `sheet`.
+-- choices, the worth and all that is found; and the model's own verdict and sheet are `verdict` and `sheet`.
 use mathlib.Core.Path.{_≡_, refl, sym, _∙_, ap, ap₂, subst}
 use mathlib.Core.Logic.{_≢_}
 use mathlib.Core.Bool.{Bool, true, false}
 use mathlib.Core.Option.{Option, none, some}
-use mathlib.Core.List.{List, _++_, flatMap}
+use mathlib.Core.List.{List, _++_}
 use Prim.Native.Nat.{ℕ, _*_, _<_}
 use lib.Dec.{eqb, ltb}
 use lib.ListN.{length, drop}
@@ -16,7 +16,6 @@ use Rattle.lists.specs.Keep.{keep}
 use Rattle.lists.specs.Sums.{pick}
 use Rattle.lists.specs.Table.{upTo}
 use Rattle.lists.proofs.Keep.{keep-same}
-use Rattle.lists.proofs.Maps.{flatMap-same}
 use Rattle.lists.proofs.Sums.{sum-ext, sum-within}
 use Rattle.lists.proofs.Table.{in-upTo}
 use Rattle.runs.specs.declared.Run.{Run}
@@ -25,36 +24,24 @@ use Rattle.runs.proofs.Turns.{FamilyRun}
 use Rattle.jobs.specs.Decide.{equal?, firstOf}
 use Rattle.jobs.specs.Job.{Job, jobOf, variable}
 use Rattle.jobs.specs.Solution.{number, objective, best}
-use Rattle.jobs.specs.Component.{lowest, leads, componentCount, component}
-use Rattle.jobs.specs.Family.{componentJob, fits, step, chosen, slope}
+use Rattle.jobs.specs.Component.{lowest, leads, component}
+use Rattle.jobs.specs.Family.{componentJob, fits, step, chosen, slope, familyRun}
 use Rattle.jobs.specs.Verdict.{Verdict, planned, noFit, refused, firstWithout, outcome, verdict}
-use Rattle.jobs.specs.Sheet.{header, variableFields, componentFields, laidOut, sheet}
+use Rattle.jobs.specs.Findings.{findings}
+use Rattle.jobs.specs.Sheet.{laidOut, areaAfter, sheet}
 use Rattle.jobs.proofs.Firsts.{first-same}
 use Rattle.jobs.proofs.Lawful.{LawfulJob}
 use Rattle.jobs.proofs.Components.{in-leads, lead-in}
 use Rattle.jobs.proofs.Assembly.{none-without}
-use Rattle.jobs.proofs.Fields.{length-laidOut, if-planned, if-noFit, if-refused}
+use Rattle.jobs.proofs.Fields.{Agree, same-layout, if-planned, if-noFit, if-refused}
 use Rattle.jobs.proofs.Promises.{optimal-best, number-within as best-within, objective-within, fault, verdict-is, planned-when, lawful-of}
-use Rattle.families.specs.Family.{familyRun, choice}
+use Rattle.families.specs.Family.{choice}
 use Rattle.families.specs.Model.{groupAt, runAt, families}
-use Rattle.families.specs.Plan.{leadsBy, componentBy, headerRow, variableRow, groupRow, emptyBy, gainBy, chosenBy, numberBy, worthBy, variableRows, groupRows, laidOutBy, outcomeBy, verdictBy, written, sheetBy}
+use Rattle.families.specs.Plan.{leadsBy, componentBy, emptyBy, gainBy, chosenBy, numberBy, worthBy, findingsBy, modelFindings, verdictBy, sheetBy}
 use Rattle.families.proofs.Sizes.{step-within}
 use Rattle.families.proofs.Exact.{readOff, family-run-is, exact, family-form}
 use Rattle.families.proofs.Wholes.{objective-own}
 use Rattle.families.proofs.Plans.{choice-in, best-at}
-
--- ---- the rows of the definitions, field by field
-header-is : (j : Job) (w : ℤ) → header j w ≡ headerRow (length (j .variables)) (componentCount j) w
-unfolding header headerRow
-header-is j w = refl
-
-variable-is : (j : Job) (x : List ℤ) (i : ℕ) → variableFields j x i ≡ variableRow (number x i) (readOff (componentJob j (lowest j i)) i) (component j i)
-unfolding variableFields variableRow
-variable-is j x i = refl
-
-component-is : (c : Job) → componentFields c ≡ groupRow (fits c) (chosen c) (slope c)
-unfolding componentFields groupRow
-component-is c = refl
 
 -- ---- of a lawful job, where g and r give for each variable what the definitions do
 module _ (j : Job) (lawful : LawfulJob j) (g : ℕ → ℕ) (r : ℕ → Run) (told : (i : ℕ) → i < length (j .variables) → (g i ≡ lowest j i) × (r i ≡ familyRun j i)) where
@@ -139,39 +126,29 @@ module _ (j : Job) (lawful : LawfulJob j) (g : ℕ → ℕ) (r : ℕ → Run) (t
     pub worth-within : Within (length (j .variables) * (1000000 * bound)) (worthBy j g r)
     worth-within = subst (Within (n * (1000000 * bound))) (sym worth-by) (objective-within j lawful (best j) (optimal-best j lawful fit-all .solution))
 
-    -- ---- the rows
-    variables-by : variableRows j g r ≡ flatMap (variableFields j (best j)) (upTo n)
-    unfolding variableRows
-    variables-by = flatMap-same (λ i. variableRow (numberBy j g r i) (r i) (componentBy g n i)) (variableFields j (best j)) (upTo n) (λ i m. row i (in-upTo n i .0 m))
+    -- so what is found is what the definitions find
+    pub findings-by : Agree (findingsBy j g r) (findings j)
+    findings-by = record {
+      variables = refl;
+      leading = leads-by;
+      numbers = component-by;
+      runs = λ i h. told i h .1;
+      values = number-by;
+      many = λ l m. ap (λ r. r .many) (told l (leads-below l m) .1);
+      choices = λ l m. chosen-by l (subst (λ ls. l ∈ ls) leads-by m);
+      gains = λ l m. gain-by l;
+      total = worth-by;
+    }
       where
-        row : (i : ℕ) → i < n → variableRow (numberBy j g r i) (r i) (componentBy g n i) ≡ variableFields j (best j) i
-        row i h =
-            ap₂ (λ x k. variableRow x (r i) k) (number-by i h) (component-by i h)
-            ∙ ap (λ r. variableRow (number (best j) i) r (component j i)) (run-by i h)
-            ∙ sym (variable-is j (best j) i)
-
-    groups-by : groupRows j g r ≡ flatMap (λ l. componentFields (componentJob j l)) (leads j)
-    unfolding groupRows
-    groups-by =
-        ap (flatMap (λ l. groupRow (r l .many) (chosenBy j g r l) (gainBy j g r l))) leads-by
-        ∙ flatMap-same (λ l. groupRow (r l .many) (chosenBy j g r l) (gainBy j g r l)) (λ l. componentFields (componentJob j l)) (leads j) row
-      where
-        row : (l : ℕ) → l ∈ leads j → groupRow (r l .many) (chosenBy j g r l) (gainBy j g r l) ≡ componentFields (componentJob j l)
-        row l m =
-            ap₂ (λ m k. groupRow m k (gainBy j g r l)) (many-by l m) (chosen-by l m)
-            ∙ ap (groupRow (fits (componentJob j l)) (chosen (componentJob j l))) (gain-by l)
-            ∙ sym (component-is (componentJob j l))
-
-    pub laid-by : laidOutBy j g r ≡ laidOut j (best j) (objective j (best j))
-    unfolding laidOutBy laidOut
-    laid-by = ap₂ _++_ (ap₂ _++_ (ap₂ (λ ls w. headerRow n (length ls) w) leads-by worth-by ∙ sym (header-is j (objective j (best j)))) variables-by) groups-by
+        leads-below : (l : ℕ) → l ∈ leadsBy g n → l < n
+        leads-below l m = in-leads j l .0 (subst (λ ls. l ∈ ls) leads-by m) .0
 
 -- ---- of any bytes: the model's own state is as told where no check turns the job away, and elsewhere it does not count
-same-outcome : (j : Job) (o : Option Reason) {e k : Option ℕ} {w : ℤ} → (o ≡ none → (e ≡ k) × (k ≡ none → w ≡ objective j (best j))) → outcomeBy o e w ≡ outcome j o k
-same-outcome j (some r) f = refl
-same-outcome j none {e} {k} {w} f = ap (λ e. outcomeBy none e w) (f refl .0) ∙ go k (f refl .1)
+same-outcome : (o : Option Reason) {e k : Option ℕ} {w z : ℤ} → (o ≡ none → (e ≡ k) × (k ≡ none → w ≡ z)) → outcome o e w ≡ outcome o k z
+same-outcome (some r) f = refl
+same-outcome none {e} {k} {w} {z} f = ap (λ e. outcome none e w) (f refl .0) ∙ go k (f refl .1)
   where
-    go : (k : Option ℕ) → (k ≡ none → w ≡ objective j (best j)) → outcomeBy none k w ≡ outcome j none k
+    go : (k : Option ℕ) → (k ≡ none → w ≡ z) → outcome none k w ≡ outcome none k z
     go none q = ap planned (q refl)
     go (some l) q = refl
 
@@ -187,25 +164,22 @@ module _ (s area : List ℕ) where
 
   pub verdict-by : verdictBy s area ≡ verdict s area
   unfolding verdictBy
-  verdict-by = same-outcome j (fault s area) cases ∙ sym (verdict-is s area)
+  verdict-by = same-outcome (fault s area) cases ∙ sym (verdict-is s area)
     where
       cases : fault s area ≡ none → (emptyBy j g r ≡ firstWithout j) × (firstWithout j ≡ none → worthBy j g r ≡ objective j (best j))
       cases e = let f = lawful-of s area e in let q = empty-by j f g r (exact j f) in (q, λ k. worth-by j f g r (exact j f) (q ∙ k))
 
   pub sheet-by : sheetBy s area ≡ sheet s area
-  unfolding sheetBy
-  sheet-by = ap (λ v. written v (laidOutBy j g r) area) verdict-by ∙ go (verdict s area) refl
+  unfolding sheetBy areaAfter
+  sheet-by = ap (λ v. areaAfter (modelFindings j) v area) verdict-by ∙ go (verdict s area) refl
     where
-      laid : (w : ℤ) → verdict s area ≡ planned w → laidOutBy j g r ≡ laidOut j (best j) w
+      laid : (w : ℤ) → verdict s area ≡ planned w → laidOut (modelFindings j) ≡ laidOut (findings j)
       laid w e =
           let (o, h) = planned-when s area w e in
           let f = lawful-of s area o in
-          laid-by j f g r (exact j f) (empty-by j f g r (exact j f) ∙ h .0) ∙ ap (laidOut j (best j)) (h .1)
+          same-layout (findings-by j f g r (exact j f) (empty-by j f g r (exact j f) ∙ h .0))
 
-      go : (v : Verdict) → verdict s area ≡ v → written v (laidOutBy j g r) area ≡ sheet s area
-      go (planned w) e =
-          ap (λ t. t ++ drop (length t) area) (laid w e)
-          ∙ ap (λ k. laidOut j (best j) w ++ drop k area) (length-laidOut j (best j) w)
-          ∙ sym (if-planned s area e)
+      go : (v : Verdict) → verdict s area ≡ v → areaAfter (modelFindings j) v area ≡ sheet s area
+      go (planned w) e = ap (λ t. t ++ drop (length t) area) (laid w e) ∙ sym (if-planned s area e)
       go (noFit l) e = sym (if-noFit s area e)
       go (refused reason row) e = sym (if-refused s area e)

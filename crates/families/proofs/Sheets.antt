@@ -8,31 +8,33 @@ use mathlib.Core.List.{List, _++_}
 use Prim.Native.Nat.{ℕ, _*_, _≤_, _<_}
 use native.Mathlib.Decide.{ℕ-discrete}
 use lib.Dec.{eqb}
-use lib.ListN.{length, drop}
+use lib.ListN.{length, getD, drop}
 use borrow.Author.Tests.{eq-eqb, ne-eqb}
 use Rattle.ints.specs.Within.{Within}
 use Rattle.ints.proofs.{ℤ, pos, _+ℤ_, _*ℤ_, _<ℤ_, arith}
 use Rattle.lists.specs.Members.{_∈_}
 use Rattle.lists.proofs.Table.{table-at}
 use Rattle.runs.specs.Run.{bound}
+use Rattle.runs.proofs.Turns.{FamilyRun}
 use Rattle.jobs.specs.Bytes.{u16}
 use Rattle.jobs.specs.Job.{Job, jobOf}
 use Rattle.jobs.specs.Solution.{number, IsSolution, objective, best}
-use Rattle.jobs.specs.Component.{lowest, leads, component, sheetLength}
-use Rattle.jobs.specs.Family.{componentJob, fits, base, step, chosen, slope}
+use Rattle.jobs.specs.Component.{lowest, leads, component}
+use Rattle.jobs.specs.Family.{componentJob, fits, base, step, chosen, slope, familyRun}
 use Rattle.jobs.specs.Verdict.{planned, firstWithout, verdict}
+use Rattle.jobs.specs.Findings.{findings}
 use Rattle.jobs.specs.Sheet.{laidOut, sheet}
 use Rattle.jobs.specs.Demands.{numberOn, baseOn, stepOn, groupOn, fitsOn, chosenOn, gainOn, partOn, memberOn, SolvesGroup, FamilyOn, FamiliesOn, GivesFits}
 use Rattle.jobs.proofs.Lawful.{LawfulJob}
-use Rattle.jobs.proofs.Components.{in-leads, lead-in, joined-iff, component-iff}
+use Rattle.jobs.proofs.Components.{in-leads, lead-in, lowest-self, joined-iff, component-iff, component-below, component-lead}
 use Rattle.jobs.proofs.Numbering.{lead-iff, group-is}
 use Rattle.jobs.proofs.Assembly.{none-without, component-length, outside-zero, solves-iff}
 use Rattle.jobs.proofs.Writing.{within-holds}
 use Rattle.jobs.proofs.Fields.{number-back, base-back, step-back, fits-back, chosen-back, gain-back, laidOut-back, if-planned}
 use Rattle.jobs.proofs.Promises.{optimal-best, number-within, planned-when, lawful-of, gives-fits}
-use Rattle.families.specs.Family.{member, IsFamily, familyRun}
+use Rattle.families.specs.Family.{member, IsFamily}
 use Rattle.families.proofs.Sizes.{first-within, step-within, many-within}
-use Rattle.families.proofs.Exact.{same-table, family-form, are-families}
+use Rattle.families.proofs.Exact.{same-table, readOff, family-run-is, family-form, are-families}
 use Rattle.families.proofs.Choices.{choice-below, member-solution, solution-member, members-once}
 use Rattle.families.proofs.Wholes.{objective-own, objective-inside}
 use Rattle.families.proofs.Plans.{choice-in, best-at}
@@ -43,9 +45,9 @@ unfolding slope
 slope-is c = refl
 
 -- ---- the sheet of a lawful job in which no group is without a solution, with anything behind it
-module _ (j : Job) (lawful : LawfulJob j) (full : firstWithout j ≡ none) (w : ℤ) (rest : List ℕ) where
+module _ (j : Job) (lawful : LawfulJob j) (full : firstWithout j ≡ none) (rest : List ℕ) where
   abbrev after : List ℕ
-  after = laidOut j (best j) w ++ rest
+  after = laidOut (findings j) ++ rest
 
   abbrev n : ℕ
   n = length (j .variables)
@@ -61,35 +63,23 @@ module _ (j : Job) (lawful : LawfulJob j) (full : firstWithout j ≡ none) (w : 
 
   -- ---- what stands in each field of the rows of variable i and of its group
   module _ (i : ℕ) (h : i < length (j .variables)) where
+    run-is : familyRun j i ≡ readOff (own i) i
+    run-is = family-run-is j i
+
+    form : FamilyRun (familyRun j i)
+    form = subst FamilyRun (sym run-is) (family-form j lawful i h)
+
     number-on : numberOn after i ≡ number (best j) i
-    number-on = number-back j (best j) w rest i h (number-within j lawful (best j) (optimal-best j lawful full .solution) i h)
+    number-on = number-back (findings j) rest i h (number-within j lawful (best j) (optimal-best j lawful full .solution) i h)
 
     base-on : baseOn after i ≡ number (base (own i)) i
-    base-on = base-back j (best j) w rest i h (first-within (family-form j lawful i h))
+    base-on = base-back (findings j) rest i h (first-within form) ∙ ap (λ r. r .first) run-is
 
     step-on : stepOn after i ≡ number (step (own i)) i
-    step-on = step-back j (best j) w rest i h (step-within (family-form j lawful i h))
+    step-on = step-back (findings j) rest i h (step-within form) ∙ ap (λ r. r .step) run-is
 
     group-on : groupOn after i ≡ component j i
-    group-on = let f = laidOut-back j (best j) w rest (omega (arith, lawful .variables)) .groups in group-is j (u16 after 6) (groupOn after) f i h
-
-    fits-small : fits (own i) ≤ 2000000001
-    fits-small = many-within (family-form j lawful i h)
-
-    fits-on : fitsOn j after (component j i) ≡ fits (own i)
-    fits-on = fits-back j (best j) w rest i h (omega (arith, fits-small))
-
-    chosen-on : chosenOn j after (component j i) ≡ chosen (own i)
-    chosen-on = chosen-back j (best j) w rest i h (omega (arith, fits-small, chosen-below (lowest j i) (lead-in j i h)))
-
-    gain-on : gainOn j after (component j i) ≡ slope (own i)
-    gain-on = gain-back j (best j) w rest i h (within-holds 8 (n * (1000000 * (2 * bound))) (slope (own i)) (omega (arith, lawful .variables)) size)
-      where
-        -- by the sum of weight × step, with the labels and the runs of the definitions themselves
-        size : Within (n * (1000000 * (2 * bound))) (slope (own i))
-        size =
-            subst (Within (n * (1000000 * (2 * bound)))) (gain-by j lawful (lowest j) (familyRun j) (λ i h. (refl, refl)) (lowest j i))
-            (gain-within j lawful (lowest j) (familyRun j) (λ i h. (refl, refl)) (lowest j i))
+    group-on = let f = laidOut-back j rest (omega (arith, lawful .variables)) .groups in group-is j (u16 after 6) (groupOn after) f i h
 
   -- ---- the group of l
   module _ (l : ℕ) (m : l ∈ leads j) where
@@ -109,14 +99,29 @@ module _ (j : Job) (lawful : LawfulJob j) (full : firstWithout j ≡ none) (w : 
     family = are-families j lawful l m
 
     -- the fields of its row
+    many-is : familyRun j l .many ≡ fits c
+    many-is = ap (λ r. r .many) (family-run-is j l) ∙ ap (λ k. fits (componentJob j k)) self
+
+    fits-small : familyRun j l .many ≤ 2000000001
+    fits-small = many-within (form l below)
+
+    lead : getD (leads j) g 0 ≡ l
+    lead = component-lead j l below ∙ self
+
     own-fits : fitsOn j after g ≡ fits c
-    own-fits = fits-on l below ∙ ap (λ k. fits (componentJob j k)) self
+    own-fits = fits-back (findings j) rest g l (component-below j l below) lead (omega (arith, fits-small)) ∙ many-is
 
     own-chosen : chosenOn j after g ≡ chosen c
-    own-chosen = chosen-on l below ∙ ap (λ k. chosen (componentJob j k)) self
+    own-chosen = chosen-back (findings j) rest g l (component-below j l below) lead (omega (arith, fits-small, many-is, chosen-below l m))
 
     own-gain : gainOn j after g ≡ slope c
-    own-gain = gain-on l below ∙ ap (λ k. slope (componentJob j k)) self
+    own-gain = gain-back (findings j) rest g l (component-below j l below) lead (within-holds 8 (n * (1000000 * (2 * bound))) (slope c) (omega (arith, lawful .variables)) size)
+      where
+        -- by the sum of weight × step, with the labels and the runs of the definitions themselves
+        size : Within (n * (1000000 * (2 * bound))) (slope c)
+        size =
+            subst (Within (n * (1000000 * (2 * bound)))) (gain-by j lawful (lowest j) (familyRun j) (λ i h. (refl, refl)) l)
+            (gain-within j lawful (lowest j) (familyRun j) (λ i h. (refl, refl)) l)
 
     -- its variables
     inside : (i : ℕ) → i < n → (groupOn after i ≡ g) ↔ (lowest j i ≡ l)
@@ -197,18 +202,25 @@ module _ (j : Job) (lawful : LawfulJob j) (full : firstWithout j ≡ none) (w : 
     families = λ l h. subst (λ g. FamilyOn j l g after) (sym (group-on l (h .is-variable))) (family-on l (lead-iff j l .0 h));
   }
     where
+      chosen-on : (i : ℕ) → i < n → chosenOn j after (groupOn after i) ≡ chosen (own i)
+      chosen-on i h =
+          let m = lead-in j i h in
+          let b = in-leads j (lowest j i) .0 m .0 in
+          ap (chosenOn j after) (group-on i h ∙ component-iff j i (lowest j i) h b .1 (joined-iff j i (lowest j i) .1 (sym (lowest-self j i))))
+          ∙ own-chosen (lowest j i) m
+
       number-is : (i : ℕ) → i < n → numberOn after i ≡ baseOn after i +ℤ stepOn after i *ℤ pos (chosenOn j after (groupOn after i))
       number-is i h =
           number-on i h ∙ best-at j lawful fit i h
           ∙ sym (ap₂ (λ u v. u +ℤ v *ℤ pos (chosenOn j after (groupOn after i))) (base-on i h) (step-on i h)
-          ∙ ap (λ k. number (base (own i)) i +ℤ number (step (own i)) i *ℤ pos k) (ap (chosenOn j after) (group-on i h) ∙ chosen-on i h))
+          ∙ ap (λ k. number (base (own i)) i +ℤ number (step (own i)) i *ℤ pos k) (chosen-on i h))
 
 -- ---- so of any bytes
 module _ (s area : List ℕ) where
   pub families-on : (w : ℤ) → verdict s area ≡ planned w → FamiliesOn (jobOf s) (sheet s area)
   families-on w e =
       let (o, h) = planned-when s area w e in
-      subst (FamiliesOn (jobOf s)) (sym (if-planned s area e)) (families-laid (jobOf s) (lawful-of s area o) (h .0) w (drop (sheetLength (jobOf s)) area))
+      subst (FamiliesOn (jobOf s)) (sym (if-planned s area e)) (families-laid (jobOf s) (lawful-of s area o) (h .0) (drop (length (laidOut (findings (jobOf s)))) area))
 
   pub definitions-give-fits : GivesFits s area (verdict s area) (sheet s area)
   definitions-give-fits = gives-fits s area families-on

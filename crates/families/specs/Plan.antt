@@ -1,25 +1,23 @@
--- The planner's last steps as functions on lists: the choice in each group, the worth and the bytes of the sheet, from what is
--- known of each variable. Like the model of the families they compute, and nothing here has to be believed:
--- proofs/Planned.antt shows that they give `verdict` and `sheet`.
-use mathlib.Core.Option.{Option, none, some}
-use mathlib.Core.List.{List, _++_, flatMap}
-use Prim.Native.Nat.{ℕ, _+_, _*_}
+-- The planner's last steps as functions on lists: the choice in each group and the worth, from what is known of each variable, and
+-- so the model's findings. Like the model of the families they compute, and nothing here has to be believed: proofs/Planned.antt
+-- shows that they give `verdict` and `sheet`.
+use mathlib.Core.Option.{Option}
+use mathlib.Core.List.{List}
+use Prim.Native.Nat.{ℕ}
 use lib.Dec.{eqb, ltb}
-use lib.ListN.{length, drop}
+use lib.ListN.{length}
 use lib.IntN.{ℤ, pos, _+ℤ_, _*ℤ_}
-use Rattle.reasons.specs.declared.Reason.{Reason}
-use Rattle.reasons.specs.Numbers.{numberOf, rowOf}
 use Rattle.lists.specs.Keep.{keep}
 use Rattle.lists.specs.Sums.{sum, sumOf}
 use Rattle.lists.specs.Table.{table, upTo}
 use Rattle.runs.specs.declared.Run.{Run}
-use Rattle.jobs.specs.Bytes.{bytesOf, signedBytes}
 use Rattle.jobs.specs.Decide.{equal?, firstOf}
 use Rattle.jobs.specs.Job.{Job, jobOf, variable}
 use Rattle.jobs.specs.Component.{leads}
+use Rattle.jobs.specs.Findings.{Findings}
 use Rattle.jobs.specs.Faults.{firstBroken}
-use Rattle.jobs.specs.Verdict.{Verdict, planned, noFit, refused, short?}
-use Rattle.jobs.specs.Sheet.{answerMark}
+use Rattle.jobs.specs.Verdict.{Verdict, outcome, short?}
+use Rattle.jobs.specs.Sheet.{areaAfter}
 use Rattle.families.specs.Family.{choice}
 use Rattle.families.specs.Model.{groupAt, runAt, families}
 
@@ -32,19 +30,6 @@ leadsBy g n = keep (λ i. eqb (g i) i) (upTo n)
 unfoldable pub componentBy : (ℕ → ℕ) → ℕ → ℕ → ℕ
 unfolding keep leadsBy
 componentBy g n i = length (keep (λ l. ltb l (g i)) (leadsBy g n))
-
--- ---- one row of each kind
-unfoldable pub headerRow : ℕ → ℕ → ℤ → List ℕ
-unfolding bytesOf signedBytes
-headerRow n groups worth = answerMark ++ bytesOf 2 n ++ bytesOf 2 groups ++ bytesOf 4 24 ++ bytesOf 4 (24 + 16 * n) ++ signedBytes 8 worth
-
-unfoldable pub variableRow : ℤ → Run → ℕ → List ℕ
-unfolding bytesOf signedBytes
-variableRow number r group = signedBytes 4 number ++ signedBytes 4 (r .first) ++ signedBytes 4 (r .step) ++ bytesOf 2 group ++ bytesOf 2 0
-
-unfoldable pub groupRow : ℕ → ℕ → ℤ → List ℕ
-unfolding bytesOf signedBytes
-groupRow many k gain = bytesOf 4 many ++ bytesOf 4 k ++ signedBytes 8 gain
 
 -- ---- of a job, where r gives the run of each variable in the family of its group
 module _ (j : Job) (g : ℕ → ℕ) (r : ℕ → Run) where
@@ -70,37 +55,29 @@ module _ (j : Job) (g : ℕ → ℕ) (r : ℕ → Run) where
   unfolding sum numberBy
   worthBy = sum (length (j .variables)) (λ i. variable j i .weight *ℤ numberBy i)
 
-  -- the rows of the variables, and those of the groups
-  unfoldable pub variableRows : List ℕ
-  unfolding table flatMap variableRow numberBy componentBy
-  variableRows = let n = length (j .variables) in flatMap (λ i. variableRow (numberBy i) (r i) (componentBy g n i)) (upTo n)
-
-  unfoldable pub groupRows : List ℕ
-  unfolding flatMap groupRow leadsBy chosenBy gainBy
-  groupRows = flatMap (λ l. groupRow (r l .many) (chosenBy l) (gainBy l)) (leadsBy g (length (j .variables)))
-
-  unfoldable pub laidOutBy : List ℕ
-  unfolding headerRow leadsBy worthBy variableRows groupRows
-  laidOutBy = let n = length (j .variables) in headerRow n (length (leadsBy g n)) worthBy ++ variableRows ++ groupRows
+  abbrev pub findingsBy : Findings
+  findingsBy = record {
+    n = length (j .variables);
+    leaders = leadsBy g (length (j .variables));
+    group = componentBy g (length (j .variables));
+    run = r;
+    assigned = numberBy;
+    index = chosenBy;
+    gain = gainBy;
+    worth = worthBy;
+  }
 
 -- ---- of the bytes of a job and the area as lent
-abbrev pub outcomeBy : Option Reason → Option ℕ → ℤ → Verdict
-outcomeBy (some r) l worth = refused (numberOf r) (rowOf r)
-outcomeBy none (some l) worth = noFit l
-outcomeBy none none worth = planned worth
+abbrev pub modelFindings : Job → Findings
+modelFindings j = let t = families j in findingsBy j (groupAt t) (runAt t)
 
 unfoldable pub verdictBy : List ℕ → List ℕ → Verdict
 unfolding firstBroken jobOf leads families emptyBy worthBy
 verdictBy s area =
     let j = jobOf s in
     let t = families j in
-    outcomeBy (firstBroken (short? j area) s) (emptyBy j (groupAt t) (runAt t)) (worthBy j (groupAt t) (runAt t))
-
-abbrev pub written : Verdict → List ℕ → List ℕ → List ℕ
-written (planned worth) sheet area = sheet ++ drop (length sheet) area
-written (noFit l) sheet area = area
-written (refused reason row) sheet area = area
+    outcome (firstBroken (short? j area) s) (emptyBy j (groupAt t) (runAt t)) (worthBy j (groupAt t) (runAt t))
 
 unfoldable pub sheetBy : List ℕ → List ℕ → List ℕ
-unfolding jobOf families verdictBy laidOutBy
-sheetBy s area = let j = jobOf s in let t = families j in written (verdictBy s area) (laidOutBy j (groupAt t) (runAt t)) area
+unfolding jobOf families verdictBy areaAfter leadsBy componentBy gainBy chosenBy numberBy worthBy
+sheetBy s area = areaAfter (modelFindings (jobOf s)) (verdictBy s area) area

@@ -1,207 +1,245 @@
--- How long a sheet is, where its fields stand, and that what is written on it reads back where it fits its field.
-use mathlib.Core.Path.{_≡_, refl, sym, _∙_, ap}
+-- How long a sheet is, where its fields stand, and that what is written on it reads back where it fits its field; and that two
+-- findings that agree are laid out alike.
+use mathlib.Core.Path.{_≡_, refl, sym, _∙_, ap, ap₂}
 use mathlib.Core.List.{List, _++_, flatMap}
 use Prim.Native.Nat.{ℕ, _+_, _*_, _^_, _≤_, _<_}
 use native.Mathlib.Omega.{arith}
 use lib.ListN.{length, getD, drop, length-append, length-drop}
 use Rattle.ints.specs.Within.{Within}
 use Rattle.ints.proofs.{ℤ}
+use Rattle.runs.specs.declared.Run.{Run}
 use Rattle.runs.specs.Run.{bound}
+use Rattle.lists.specs.Members.{_∈_}
 use Rattle.lists.specs.Table.{upTo}
+use Rattle.lists.proofs.Maps.{flatMap-same}
 use Rattle.lists.proofs.Places.{length-both, drop-past, length-flatMap}
-use Rattle.lists.proofs.Table.{table-at, length-upTo}
-use Rattle.jobs.specs.Bytes.{unsigned, bytesOf, signedBytes}
+use Rattle.lists.proofs.Table.{in-upTo, table-at, length-upTo}
+use Rattle.jobs.specs.Bytes.{unsigned, i64, bytesOf, signedBytes}
 use Rattle.jobs.specs.Job.{Job, jobOf}
-use Rattle.jobs.specs.Solution.{number, best}
-use Rattle.jobs.specs.Component.{lowest, leads, componentCount, component, groupRows, sheetLength}
-use Rattle.jobs.specs.Family.{componentJob, fits, base, step, chosen, slope}
+use Rattle.jobs.specs.Component.{componentCount, component, sheetLength}
+use Rattle.jobs.specs.Findings.{Findings, findings}
 use Rattle.jobs.specs.Verdict.{Verdict, planned, noFit, refused, verdict}
-use Rattle.jobs.specs.Sheet.{header, variableFields, componentFields, laidOut, areaAfter, sheet}
-use Rattle.jobs.specs.Demands.{worthOn, numberOn, baseOn, stepOn, fitsOn, chosenOn, gainOn, LaidOut}
+use Rattle.jobs.specs.Sheet.{sheetHeader, sheetVariable, sheetGroup, laidOut, areaAfter, sheet}
+use Rattle.jobs.specs.Demands.{worthOn, numberOn, baseOn, stepOn, LaidOut}
 use Rattle.jobs.proofs.Writing.{Holds, within-holds, unsigned-first, unsigned-past, unsigned-part, unsigned-bytesOf, signed-field}
-use Rattle.jobs.proofs.Components.{length-leads, component-below, component-lead}
+use Rattle.jobs.proofs.Components.{length-leads, component-below}
 use Rattle.jobs.proofs.Numbering.{numbered-by}
 
 -- ---- how long each part is: the widths of its fields are numerals, so this computes
-pub length-header : (j : Job) (w : ℤ) → length (header j w) ≡ 24
-unfolding header
-length-header j w = refl
+pub length-header : (n g : ℕ) (worth : ℤ) → length (sheetHeader n g worth) ≡ 24
+unfolding sheetHeader
+length-header n g worth = refl
 
-pub length-variableFields : (j : Job) (x : List ℤ) (i : ℕ) → length (variableFields j x i) ≡ 16
-unfolding variableFields
-length-variableFields j x i = refl
+pub length-variable : (x : ℤ) (r : Run) (group : ℕ) → length (sheetVariable x r group) ≡ 16
+unfolding sheetVariable
+length-variable x r group = refl
 
-pub length-componentFields : (c : Job) → length (componentFields c) ≡ 16
-unfolding componentFields
-length-componentFields c = refl
+pub length-group : (many k : ℕ) (gain : ℤ) → length (sheetGroup many k gain) ≡ 16
+unfolding sheetGroup
+length-group many k gain = refl
 
--- what a group's row says
-fits-field : (c : Job) → unsigned 4 (componentFields c) 0 ≡ unsigned 4 (bytesOf 4 (fits c)) 0
-unfolding componentFields unsigned
-fits-field c = refl
+module _ (f : Findings) where
+  abbrev header : List ℕ
+  header = sheetHeader (f .n) (length (f .leaders)) (f .worth)
 
-chosen-field : (c : Job) → unsigned 4 (componentFields c) 4 ≡ unsigned 4 (bytesOf 4 (chosen c)) 0
-unfolding componentFields unsigned
-chosen-field c = refl
+  abbrev variableRow : ℕ → List ℕ
+  variableRow i = sheetVariable (f .assigned i) (f .run i) (f .group i)
 
-gain-field : (c : Job) → unsigned 8 (componentFields c) 8 ≡ unsigned 8 (signedBytes 8 (slope c)) 0
-unfolding componentFields unsigned
-gain-field c = refl
+  abbrev groupRow : ℕ → List ℕ
+  groupRow l = sheetGroup (f .run l .many) (f .index l) (f .gain l)
 
-module _ (j : Job) (x : List ℤ) (w : ℤ) where
-  abbrev variablePart : List ℕ
-  variablePart = flatMap (variableFields j x) (upTo (length (j .variables)))
+  abbrev variableRows : List ℕ
+  variableRows = flatMap variableRow (upTo (f .n))
 
-  abbrev componentPart : List ℕ
-  componentPart = flatMap (λ l. componentFields (componentJob j l)) (leads j)
+  abbrev groupRows : List ℕ
+  groupRows = flatMap groupRow (f .leaders)
 
-  laidOut-is : laidOut j x w ≡ header j w ++ variablePart ++ componentPart
+  laidOut-is : laidOut f ≡ header ++ variableRows ++ groupRows
   unfolding laidOut
   laidOut-is = refl
 
-  length-variablePart : length variablePart ≡ 16 * length (j .variables)
-  length-variablePart =
-      length-flatMap (variableFields j x) 16 (length-variableFields j x) (upTo (length (j .variables)))
-      ∙ ap (λ n. 16 * n) (length-upTo (length (j .variables)))
+  length-variableRows : length variableRows ≡ 16 * f .n
+  length-variableRows = length-flatMap variableRow 16 (λ i. length-variable (f .assigned i) (f .run i) (f .group i)) (upTo (f .n)) ∙ ap (λ n. 16 * n) (length-upTo (f .n))
 
-  length-componentPart : length componentPart ≡ 16 * componentCount j
-  length-componentPart = length-flatMap (λ l. componentFields (componentJob j l)) 16 (λ l. length-componentFields (componentJob j l)) (leads j)
+  length-groupRows : length groupRows ≡ 16 * length (f .leaders)
+  length-groupRows = length-flatMap groupRow 16 (λ l. length-group (f .run l .many) (f .index l) (f .gain l)) (f .leaders)
 
-  length-rows : length (header j w ++ variablePart) ≡ groupRows j
-  length-rows = length-both (header j w) variablePart (length-header j w) length-variablePart
+  length-front : length (header ++ variableRows) ≡ 24 + 16 * f .n
+  length-front = length-both header variableRows (length-header (f .n) (length (f .leaders)) (f .worth)) length-variableRows
 
-  pub length-laidOut : length (laidOut j x w) ≡ sheetLength j
-  length-laidOut = ap length laidOut-is ∙ length-both (header j w ++ variablePart) componentPart length-rows length-componentPart
+  pub length-laidOut : length (laidOut f) ≡ 24 + 16 * f .n + 16 * length (f .leaders)
+  length-laidOut = ap length laidOut-is ∙ length-both (header ++ variableRows) groupRows length-front length-groupRows
 
   -- ---- where each part is read, on a sheet with anything behind it
   module _ (rest : List ℕ) (k : ℕ) where
     -- up to the end, and up to the group rows
-    in-sheet : (at : ℕ) → at + k ≤ sheetLength j → unsigned k (laidOut j x w ++ rest) at ≡ unsigned k (header j w ++ variablePart ++ componentPart) at
-    in-sheet at h = unsigned-first k (laidOut j x w) rest at (omega (arith, length-laidOut)) ∙ ap (λ s. unsigned k s at) laidOut-is
+    in-sheet : (at : ℕ) → at + k ≤ 24 + 16 * f .n + 16 * length (f .leaders) → unsigned k (laidOut f ++ rest) at ≡ unsigned k (header ++ variableRows ++ groupRows) at
+    in-sheet at h = unsigned-first k (laidOut f) rest at (omega (arith, length-laidOut)) ∙ ap (λ s. unsigned k s at) laidOut-is
 
-    in-rows : (at : ℕ) → at + k ≤ groupRows j → unsigned k (laidOut j x w ++ rest) at ≡ unsigned k (header j w ++ variablePart) at
-    in-rows at h = in-sheet at (omega arith) ∙ unsigned-first k (header j w ++ variablePart) componentPart at (omega (arith, length-rows))
+    in-front : (at : ℕ) → at + k ≤ 24 + 16 * f .n → unsigned k (laidOut f ++ rest) at ≡ unsigned k (header ++ variableRows) at
+    in-front at h = in-sheet at (omega arith) ∙ unsigned-first k (header ++ variableRows) groupRows at (omega (arith, length-front))
 
-    pub in-header : (at : ℕ) → at + k ≤ 24 → unsigned k (laidOut j x w ++ rest) at ≡ unsigned k (header j w) at
-    in-header at h = in-rows at (omega arith) ∙ unsigned-first k (header j w) variablePart at (omega (arith, length-header j w))
+    in-header : (at : ℕ) → at + k ≤ 24 → unsigned k (laidOut f ++ rest) at ≡ unsigned k header at
+    in-header at h = in-front at (omega arith) ∙ unsigned-first k header variableRows at (omega (arith, length-header (f .n) (length (f .leaders)) (f .worth)))
 
-    pub in-variable : (i at : ℕ) → i < length (j .variables) → at + k ≤ 16 → unsigned k (laidOut j x w ++ rest) (24 + 16 * i + at) ≡ unsigned k (variableFields j x i) at
+    in-variable : (i at : ℕ) → i < f .n → at + k ≤ 16 → unsigned k (laidOut f ++ rest) (24 + 16 * i + at) ≡ unsigned k (variableRow i) at
     in-variable i at h l =
         let e : 24 + 16 * i + at ≡ 24 + (16 * i + at) = omega arith in
-        in-rows (24 + 16 * i + at) (omega arith)
-        ∙ ap (unsigned k (header j w ++ variablePart)) e
-        ∙ unsigned-past k (header j w) variablePart (16 * i + at) (length-header j w)
-        ∙ unsigned-part (variableFields j x) 16 (length-variableFields j x) (upTo (length (j .variables))) 0 k i at (omega (arith, length-upTo (length (j .variables)))) l
-        ∙ ap (λ i. unsigned k (variableFields j x i) at) (table-at (λ i. i) (length (j .variables)) i 0 h)
+        in-front (24 + 16 * i + at) (omega arith)
+        ∙ ap (unsigned k (header ++ variableRows)) e
+        ∙ unsigned-past k header variableRows (16 * i + at) (length-header (f .n) (length (f .leaders)) (f .worth))
+        ∙ unsigned-part variableRow 16 (λ i. length-variable (f .assigned i) (f .run i) (f .group i)) (upTo (f .n)) 0 k i at (omega (arith, length-upTo (f .n))) l
+        ∙ ap (λ i. unsigned k (variableRow i) at) (table-at (λ i. i) (f .n) i 0 h)
 
-    pub in-component : (g at : ℕ) → g < componentCount j → at + k ≤ 16 →
-        unsigned k (laidOut j x w ++ rest) (groupRows j + 16 * g + at) ≡ unsigned k (componentFields (componentJob j (getD (leads j) g 0))) at
-    in-component g at h l =
-        let e : groupRows j + 16 * g + at ≡ groupRows j + (16 * g + at) = omega arith in
-        in-sheet (groupRows j + 16 * g + at) (omega arith)
-        ∙ ap (unsigned k (header j w ++ variablePart ++ componentPart)) e
-        ∙ unsigned-past k (header j w ++ variablePart) componentPart (16 * g + at) length-rows
-        ∙ unsigned-part (λ l. componentFields (componentJob j l)) 16 (λ l. length-componentFields (componentJob j l)) (leads j) 0 k g at h l
+    in-group : (g at : ℕ) → g < length (f .leaders) → at + k ≤ 16 → unsigned k (laidOut f ++ rest) (24 + 16 * f .n + 16 * g + at) ≡ unsigned k (groupRow (getD (f .leaders) g 0)) at
+    in-group g at h l =
+        let e : 24 + 16 * f .n + 16 * g + at ≡ 24 + 16 * f .n + (16 * g + at) = omega arith in
+        in-sheet (24 + 16 * f .n + 16 * g + at) (omega arith)
+        ∙ ap (unsigned k (header ++ variableRows ++ groupRows)) e
+        ∙ unsigned-past k (header ++ variableRows) groupRows (16 * g + at) length-front
+        ∙ unsigned-part groupRow 16 (λ l. length-group (f .run l .many) (f .index l) (f .gain l)) (f .leaders) 0 k g at h l
 
   -- ---- what reads back
-  -- the own job of a variable's group
-  abbrev own : ℕ → Job
-  own i = componentJob j (lowest j i)
-
-  number-field : (i : ℕ) → unsigned 4 (variableFields j x i) 0 ≡ unsigned 4 (signedBytes 4 (number x i)) 0
-  unfolding variableFields unsigned
-  number-field i = refl
-
-  base-field : (i : ℕ) → unsigned 4 (variableFields j x i) 4 ≡ unsigned 4 (signedBytes 4 (number (base (own i)) i)) 0
-  unfolding variableFields unsigned
-  base-field i = refl
-
-  step-field : (i : ℕ) → unsigned 4 (variableFields j x i) 8 ≡ unsigned 4 (signedBytes 4 (number (step (own i)) i)) 0
-  unfolding variableFields unsigned
-  step-field i = refl
-
-  worth-field : unsigned 8 (header j w) 16 ≡ unsigned 8 (signedBytes 8 w) 0
-  unfolding header unsigned
+  worth-field : unsigned 8 header 16 ≡ unsigned 8 (signedBytes 8 (f .worth)) 0
+  unfolding sheetHeader unsigned
   worth-field = refl
 
   module _ (rest : List ℕ) where
-    pub worth-back : Holds 8 w → worthOn (laidOut j x w ++ rest) ≡ w
-    worth-back h = signed-field 8 w (in-header rest 8 16 (omega arith) ∙ worth-field) h
+    pub worth-back : Holds 8 (f .worth) → worthOn (laidOut f ++ rest) ≡ f .worth
+    worth-back h = signed-field 8 (f .worth) (in-header rest 8 16 (omega arith) ∙ worth-field) h
 
     -- of the row of variable i
-    module _ (i : ℕ) (h : i < length (j .variables)) where
-      pub number-back : Within bound (number x i) → numberOn (laidOut j x w ++ rest) i ≡ number x i
+    module _ (i : ℕ) (h : i < f .n) where
+      number-field : unsigned 4 (variableRow i) 0 ≡ unsigned 4 (signedBytes 4 (f .assigned i)) 0
+      unfolding sheetVariable unsigned
+      number-field = refl
+
+      base-field : unsigned 4 (variableRow i) 4 ≡ unsigned 4 (signedBytes 4 (f .run i .first)) 0
+      unfolding sheetVariable unsigned
+      base-field = refl
+
+      step-field : unsigned 4 (variableRow i) 8 ≡ unsigned 4 (signedBytes 4 (f .run i .step)) 0
+      unfolding sheetVariable unsigned
+      step-field = refl
+
+      pub number-back : Within bound (f .assigned i) → numberOn (laidOut f ++ rest) i ≡ f .assigned i
       number-back b =
           let e : 24 + 16 * i ≡ 24 + 16 * i + 0 = omega arith in
-          signed-field 4 (number x i) (ap (unsigned 4 (laidOut j x w ++ rest)) e ∙ in-variable rest 4 i 0 h (omega arith) ∙ number-field i) (within-holds 4 bound (number x i) (omega arith) b)
+          signed-field 4 (f .assigned i) (ap (unsigned 4 (laidOut f ++ rest)) e ∙ in-variable rest 4 i 0 h (omega arith) ∙ number-field) (within-holds 4 bound (f .assigned i) (omega arith) b)
 
-      pub base-back : Within bound (number (base (componentJob j (lowest j i))) i) → baseOn (laidOut j x w ++ rest) i ≡ number (base (componentJob j (lowest j i))) i
-      base-back b = signed-field 4 (number (base (own i)) i) (in-variable rest 4 i 4 h (omega arith) ∙ base-field i) (within-holds 4 bound (number (base (own i)) i) (omega arith) b)
+      pub base-back : Within bound (f .run i .first) → baseOn (laidOut f ++ rest) i ≡ f .run i .first
+      base-back b = signed-field 4 (f .run i .first) (in-variable rest 4 i 4 h (omega arith) ∙ base-field) (within-holds 4 bound (f .run i .first) (omega arith) b)
 
-      pub step-back : Within (2 * bound) (number (step (componentJob j (lowest j i))) i) → stepOn (laidOut j x w ++ rest) i ≡ number (step (componentJob j (lowest j i))) i
-      step-back b = signed-field 4 (number (step (own i)) i) (in-variable rest 4 i 8 h (omega arith) ∙ step-field i) (within-holds 4 (2 * bound) (number (step (own i)) i) (omega arith) b)
+      pub step-back : Within (2 * bound) (f .run i .step) → stepOn (laidOut f ++ rest) i ≡ f .run i .step
+      step-back b = signed-field 4 (f .run i .step) (in-variable rest 4 i 8 h (omega arith) ∙ step-field) (within-holds 4 (2 * bound) (f .run i .step) (omega arith) b)
 
-      -- and of the row of its group
-      in-group : (k at : ℕ) → at + k ≤ 16 → unsigned k (laidOut j x w ++ rest) (groupRows j + 16 * component j i + at) ≡ unsigned k (componentFields (own i)) at
-      in-group k at l = in-component rest k (component j i) at (component-below j i h) l ∙ ap (λ l. unsigned k (componentFields (componentJob j l)) at) (component-lead j i h)
+    -- of the row of group g, whose lowest variable is l
+    module _ (g l : ℕ) (h : g < length (f .leaders)) (lead : getD (f .leaders) g 0 ≡ l) where
+      of-row : (k at : ℕ) → at + k ≤ 16 → unsigned k (laidOut f ++ rest) (24 + 16 * f .n + 16 * g + at) ≡ unsigned k (groupRow l) at
+      of-row k at b = in-group rest k g at h b ∙ ap (λ l. unsigned k (groupRow l) at) lead
 
-      pub fits-back : fits (componentJob j (lowest j i)) < 4294967296 → fitsOn j (laidOut j x w ++ rest) (component j i) ≡ fits (componentJob j (lowest j i))
-      fits-back l =
-          let e : groupRows j + 16 * component j i ≡ groupRows j + 16 * component j i + 0 = omega arith in
-          ap (unsigned 4 (laidOut j x w ++ rest)) e ∙ in-group 4 0 (omega arith) ∙ fits-field (own i) ∙ unsigned-bytesOf 4 (fits (own i)) l
+      fits-field : unsigned 4 (groupRow l) 0 ≡ unsigned 4 (bytesOf 4 (f .run l .many)) 0
+      unfolding sheetGroup unsigned
+      fits-field = refl
 
-      pub chosen-back : chosen (componentJob j (lowest j i)) < 4294967296 → chosenOn j (laidOut j x w ++ rest) (component j i) ≡ chosen (componentJob j (lowest j i))
-      chosen-back l = in-group 4 4 (omega arith) ∙ chosen-field (own i) ∙ unsigned-bytesOf 4 (chosen (own i)) l
+      chosen-field : unsigned 4 (groupRow l) 4 ≡ unsigned 4 (bytesOf 4 (f .index l)) 0
+      unfolding sheetGroup unsigned
+      chosen-field = refl
 
-      pub gain-back : Holds 8 (slope (componentJob j (lowest j i))) → gainOn j (laidOut j x w ++ rest) (component j i) ≡ slope (componentJob j (lowest j i))
-      gain-back l = signed-field 8 (slope (own i)) (in-group 8 8 (omega arith) ∙ gain-field (own i)) l
+      gain-field : unsigned 8 (groupRow l) 8 ≡ unsigned 8 (signedBytes 8 (f .gain l)) 0
+      unfolding sheetGroup unsigned
+      gain-field = refl
+
+      pub fits-back : f .run l .many < 4294967296 → unsigned 4 (laidOut f ++ rest) (24 + 16 * f .n + 16 * g) ≡ f .run l .many
+      fits-back b =
+          let e : 24 + 16 * f .n + 16 * g ≡ 24 + 16 * f .n + 16 * g + 0 = omega arith in
+          ap (unsigned 4 (laidOut f ++ rest)) e ∙ of-row 4 0 (omega arith) ∙ fits-field ∙ unsigned-bytesOf 4 (f .run l .many) b
+
+      pub chosen-back : f .index l < 4294967296 → unsigned 4 (laidOut f ++ rest) (24 + 16 * f .n + 16 * g + 4) ≡ f .index l
+      chosen-back b = of-row 4 4 (omega arith) ∙ chosen-field ∙ unsigned-bytesOf 4 (f .index l) b
+
+      pub gain-back : Holds 8 (f .gain l) → i64 (laidOut f ++ rest) (24 + 16 * f .n + 16 * g + 8) ≡ f .gain l
+      gain-back b = signed-field 8 (f .gain l) (of-row 8 8 (omega arith) ∙ gain-field) b
 
     -- an unsigned field of the header, and of a variable's row
-    header-back : (k y at : ℕ) → at + k ≤ 24 → unsigned k (header j w) at ≡ unsigned k (bytesOf k y) 0 → y < 256 ^ k → unsigned k (laidOut j x w ++ rest) at ≡ y
+    header-back : (k y at : ℕ) → at + k ≤ 24 → unsigned k header at ≡ unsigned k (bytesOf k y) 0 → y < 256 ^ k → unsigned k (laidOut f ++ rest) at ≡ y
     header-back k y at h e l = in-header rest k at h ∙ e ∙ unsigned-bytesOf k y l
 
-    variable-back : (k y i at : ℕ) → i < length (j .variables) → at + k ≤ 16 → unsigned k (variableFields j x i) at ≡ unsigned k (bytesOf k y) 0 → y < 256 ^ k →
-        unsigned k (laidOut j x w ++ rest) (24 + 16 * i + at) ≡ y
+    variable-back : (k y i at : ℕ) → i < f .n → at + k ≤ 16 → unsigned k (variableRow i) at ≡ unsigned k (bytesOf k y) 0 → y < 256 ^ k →
+        unsigned k (laidOut f ++ rest) (24 + 16 * i + at) ≡ y
     variable-back k y i at m h e l = in-variable rest k i at m h ∙ e ∙ unsigned-bytesOf k y l
 
-    -- the counts, the offsets and the numbers of groups fit their fields where n fits its own
-    pub laidOut-back : length (j .variables) < 65536 → LaidOut j (laidOut j x w ++ rest)
-    unfolding laidOut header variableFields unsigned
-    laidOut-back h = record {
-      mark = refl;
-      variables = header-back 2 (length (j .variables)) 4 (omega arith) refl (omega arith);
-      variable-rows = header-back 4 24 8 (omega arith) refl (omega arith);
-      group-rows = header-back 4 (groupRows j) 12 (omega arith) refl (omega arith);
-      groups =
-          numbered-by j _ _ (header-back 2 (componentCount j) 6 (omega arith) refl (omega (arith, length-leads j))) (
-          λ i m. variable-back 2 (component j i) i 12 m (omega arith) refl (omega (arith, component-below j i m, length-leads j))
-          );
-      zero = λ i m. variable-back 2 0 i 14 m (omega arith) refl (omega arith);
-    }
+-- the counts, the offsets and the numbers of groups fit their fields where n fits its own
+pub laidOut-back : (j : Job) (rest : List ℕ) → length (j .variables) < 65536 → LaidOut j (laidOut (findings j) ++ rest)
+unfolding laidOut sheetHeader sheetVariable unsigned
+laidOut-back j rest h = record {
+  mark = refl;
+  variables = header-back (findings j) rest 2 (length (j .variables)) 4 (omega arith) refl (omega arith);
+  variable-rows = header-back (findings j) rest 4 24 8 (omega arith) refl (omega arith);
+  group-rows = header-back (findings j) rest 4 (24 + 16 * length (j .variables)) 12 (omega arith) refl (omega arith);
+  groups =
+      numbered-by j _ _ (header-back (findings j) rest 2 (componentCount j) 6 (omega arith) refl (omega (arith, length-leads j))) (
+      λ i m. variable-back (findings j) rest 2 (component j i) i 12 m (omega arith) refl (omega (arith, component-below j i m, length-leads j))
+      );
+  zero = λ i m. variable-back (findings j) rest 2 0 i 14 m (omega arith) refl (omega arith);
+}
+
+-- ---- findings that agree wherever they are shown are laid out alike
+pub record Agree (f g : Findings) : Type 0 where
+  pub variables : f .n ≡ g .n
+  pub leading : f .leaders ≡ g .leaders
+  pub numbers : (i : ℕ) → i < f .n → f .group i ≡ g .group i
+  pub runs : (i : ℕ) → i < f .n → f .run i ≡ g .run i
+  pub values : (i : ℕ) → i < f .n → f .assigned i ≡ g .assigned i
+  pub many : (l : ℕ) → l ∈ f .leaders → f .run l .many ≡ g .run l .many
+  pub choices : (l : ℕ) → l ∈ f .leaders → f .index l ≡ g .index l
+  pub gains : (l : ℕ) → l ∈ f .leaders → f .gain l ≡ g .gain l
+  pub total : f .worth ≡ g .worth
+
+module _ {f g : Findings} (a : Agree f g) where
+  same-header : header f ≡ header g
+  same-header = rw (a .variables, a .leading, a .total) refl
+
+  same-variable : (i : ℕ) → i < f .n → variableRow f i ≡ variableRow g i
+  same-variable i h = rw (a .numbers i h, a .runs i h, a .values i h) refl
+
+  same-group : (l : ℕ) → l ∈ f .leaders → groupRow f l ≡ groupRow g l
+  same-group l m = rw (a .many l m, a .choices l m, a .gains l m) refl
+
+  pub same-layout : laidOut f ≡ laidOut g
+  same-layout =
+      laidOut-is f
+      ∙ ap₂ _++_ (ap₂ _++_ same-header
+      (flatMap-same (variableRow f) (variableRow g) (upTo (f .n)) (λ i m. same-variable i (in-upTo (f .n) i .0 m)) ∙ ap (λ n. flatMap (variableRow g) (upTo n)) (a .variables)))
+      (flatMap-same (groupRow f) (groupRow g) (f .leaders) same-group ∙ ap (flatMap (groupRow g)) (a .leading))
+      ∙ sym (laidOut-is g)
 
 -- ---- the area after the call: as long as before, and with the same past the sheet
-length-after : (j : Job) (v : Verdict) (area : List ℕ) → ((w : ℤ) → v ≡ planned w → sheetLength j ≤ length area) → length (areaAfter j v area) ≡ length area
+length-after : (f : Findings) (v : Verdict) (area : List ℕ) → ((w : ℤ) → v ≡ planned w → length (laidOut f) ≤ length area) → length (areaAfter f v area) ≡ length area
 unfolding areaAfter
-length-after j (planned w) area h =
-    length-append (laidOut j (best j) w) (drop (sheetLength j) area) ∙ omega (arith, length-laidOut j (best j) w, length-drop (sheetLength j) area, h w refl)
-length-after j (noFit l) area h = refl
-length-after j (refused reason row) area h = refl
+length-after f (planned w) area h = length-append (laidOut f) (drop (length (laidOut f)) area) ∙ omega (arith, length-drop (length (laidOut f)) area, h w refl)
+length-after f (noFit l) area h = refl
+length-after f (refused reason row) area h = refl
 
-drop-after : (j : Job) (v : Verdict) (area : List ℕ) → drop (sheetLength j) (areaAfter j v area) ≡ drop (sheetLength j) area
+drop-after : (f : Findings) (v : Verdict) (area : List ℕ) → drop (length (laidOut f)) (areaAfter f v area) ≡ drop (length (laidOut f)) area
 unfolding areaAfter
-drop-after j (planned w) area =
-    let rest = drop (sheetLength j) area in
-    ap (λ n. drop n (laidOut j (best j) w ++ rest)) (sym (length-laidOut j (best j) w)) ∙ drop-past (laidOut j (best j) w) rest
-drop-after j (noFit l) area = refl
-drop-after j (refused reason row) area = refl
+drop-after f (planned w) area = drop-past (laidOut f) (drop (length (laidOut f)) area)
+drop-after f (noFit l) area = refl
+drop-after f (refused reason row) area = refl
 
 -- what it is in each case
 module _ (s area : List ℕ) where
-  sheet-is : {v : Verdict} → verdict s area ≡ v → sheet s area ≡ areaAfter (jobOf s) v area
-  unfolding sheet
-  sheet-is e = ap (λ v. areaAfter (jobOf s) v area) e
+  abbrev f : Findings
+  f = findings (jobOf s)
 
-  pub if-planned : {w : ℤ} → verdict s area ≡ planned w → sheet s area ≡ laidOut (jobOf s) (best (jobOf s)) w ++ drop (sheetLength (jobOf s)) area
+  pub length-sheet-is : length (laidOut (findings (jobOf s))) ≡ sheetLength (jobOf s)
+  length-sheet-is = length-laidOut f
+
+  sheet-is : {v : Verdict} → verdict s area ≡ v → sheet s area ≡ areaAfter f v area
+  unfolding sheet
+  sheet-is e = ap (λ v. areaAfter f v area) e
+
+  pub if-planned : {w : ℤ} → verdict s area ≡ planned w → sheet s area ≡ laidOut (findings (jobOf s)) ++ drop (length (laidOut (findings (jobOf s)))) area
   unfolding areaAfter
   if-planned e = sheet-is e
 
@@ -214,7 +252,11 @@ module _ (s area : List ℕ) where
   if-refused e = sheet-is e
 
   pub length-sheet : ((w : ℤ) → verdict s area ≡ planned w → sheetLength (jobOf s) ≤ length area) → length (sheet s area) ≡ length area
-  length-sheet h = ap length (sheet-is refl) ∙ length-after (jobOf s) (verdict s area) area h
+  length-sheet h = ap length (sheet-is refl) ∙ length-after f (verdict s area) area (λ w e. omega (arith, h w e, length-sheet-is))
 
   pub drop-sheet : drop (sheetLength (jobOf s)) (sheet s area) ≡ drop (sheetLength (jobOf s)) area
-  drop-sheet = ap (drop (sheetLength (jobOf s))) (sheet-is refl) ∙ drop-after (jobOf s) (verdict s area) area
+  drop-sheet =
+      ap (λ n. drop n (sheet s area)) (sym length-sheet-is)
+      ∙ ap (drop (length (laidOut f))) (sheet-is refl)
+      ∙ drop-after f (verdict s area) area
+      ∙ ap (λ n. drop n area) length-sheet-is

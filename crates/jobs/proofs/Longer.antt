@@ -13,6 +13,7 @@ use Rattle.reasons.specs.declared.Reason.the-variants.{ShortJob, WrongMark, Too
 use Rattle.reasons.specs.Numbers.{numberOf, rowOf}
 use Rattle.jobs.specs.Bytes.{unsigned}
 use Rattle.jobs.specs.Job.{jobOf, variableCount, equationCount}
+use Rattle.jobs.specs.Solution.{objective, best}
 use Rattle.jobs.specs.Table.{mark, Header}
 use Rattle.jobs.specs.Decide.{atMost?, below?, either, list?, firstOf}
 use Rattle.jobs.specs.Faults.{broken?, headerChecks, rowChecks, checks, firstBroken}
@@ -64,7 +65,7 @@ module _ (s : List ℕ) (long : 23576 < length s) where
     fault-long r h = first-stays (broken? d s) headerChecks (rowChecks s ++ ShortArea ∷ []) (in-header r h)
 
   refused-long : (area : List ℕ) (r : Reason) → ReasonOf s r → verdict s area ≡ refused (numberOf r) (rowOf r)
-  refused-long area r h = verdict-is s area ∙ ap (λ o. outcome (jobOf s) o (firstWithout (jobOf s))) (fault-long (short? (jobOf s) area) r h)
+  refused-long area r h = verdict-is s area ∙ ap (λ o. outcome o (firstWithout (jobOf s)) (objective (jobOf s) (best (jobOf s)))) (fault-long (short? (jobOf s) area) r h)
 
 -- ---- so a longer list is answered as its first part
 abbrev Same : List ℕ → List ℕ → List ℕ → Type 0

@@ -20,6 +20,7 @@ use Rattle.jobs.specs.Job.{Job, jobOf, variable}
 use Rattle.jobs.specs.Solution.{number, IsSolution, objective, Optimal, best}
 use Rattle.jobs.specs.Component.{lowest, leads, groupRows, sheetLength}
 use Rattle.jobs.specs.Family.{componentJob}
+use Rattle.jobs.specs.Findings.{findings}
 use Rattle.jobs.specs.Table.{ShortFor, IsFirst}
 use Rattle.jobs.specs.Faults.{firstBroken}
 use Rattle.jobs.specs.Verdict.{Verdict, planned, noFit, refused, firstWithout, outcome, short?, verdict}
@@ -51,18 +52,18 @@ IsRefused (planned w) p q = ⊥
 IsRefused (noFit l) p q = ⊥
 IsRefused (refused reason row) p q = (reason ≡ p) × (row ≡ q)
 
-module _ (j : Job) where
-  was-planned : (o : Option Reason) (k : Option ℕ) (w : ℤ) → IsPlanned (outcome j o k) w → (o ≡ none) × ((k ≡ none) × (objective j (best j) ≡ w))
+module _ (z : ℤ) where
+  was-planned : (o : Option Reason) (k : Option ℕ) (w : ℤ) → IsPlanned (outcome o k z) w → (o ≡ none) × ((k ≡ none) × (z ≡ w))
   was-planned none none w e = (refl, (refl, e))
   was-planned none (some l) w e = absurd e
   was-planned (some r) k w e = absurd e
 
-  was-noFit : (o : Option Reason) (k : Option ℕ) (l : ℕ) → IsNoFit (outcome j o k) l → (o ≡ none) × (k ≡ some l)
+  was-noFit : (o : Option Reason) (k : Option ℕ) (l : ℕ) → IsNoFit (outcome o k z) l → (o ≡ none) × (k ≡ some l)
   was-noFit none none l e = absurd e
   was-noFit none (some i) l e = (refl, ap some e)
   was-noFit (some r) k l e = absurd e
 
-  was-refused : (o : Option Reason) (k : Option ℕ) (p q : ℕ) → IsRefused (outcome j o k) p q → (r : Reason) × ((o ≡ some r) × ((numberOf r ≡ p) × (rowOf r ≡ q)))
+  was-refused : (o : Option Reason) (k : Option ℕ) (p q : ℕ) → IsRefused (outcome o k z) p q → (r : Reason) × ((o ≡ some r) × ((numberOf r ≡ p) × (rowOf r ≡ q)))
   was-refused none none p q e = absurd e
   was-refused none (some l) p q e = absurd e
   was-refused (some r) k p q e = (r, (refl, e))
@@ -101,35 +102,42 @@ module _ (j : Job) (f : LawfulJob j) where
         sum-within (length (j .variables)) (1000000 * bound) (λ i. variable j i .weight *ℤ number x i)
         (λ i h. within-mul (f .each-variable i h .weight) (number-within i h))
 
-    -- and read back
-    numbers-back : (w : ℤ) (rest : List ℕ) → numbersOn j (laidOut j x w ++ rest) ≡ x
-    numbers-back w rest = same-places (pos 0) (numbersOn j (laidOut j x w ++ rest)) x (long ∙ sym (s .long)) (λ i h. at i (omega (arith, long)))
+  -- where no group is without a solution, the numbers and the worth of the best read back
+  module _ (e : firstWithout j ≡ none) (rest : List ℕ) where
+    abbrev laid : List ℕ
+    laid = laidOut (findings j) ++ rest
+
+    s : IsSolution j (best j)
+    s = optimal-best e .solution
+
+    numbers-back : numbersOn j (laidOut (findings j) ++ rest) ≡ best j
+    numbers-back = same-places (pos 0) (numbersOn j laid) (best j) (long ∙ sym (s .long)) (λ i h. at i (omega (arith, long)))
       where
-        long : length (numbersOn j (laidOut j x w ++ rest)) ≡ length (j .variables)
-        long = length-table (numberOn (laidOut j x w ++ rest)) (length (j .variables))
+        long : length (numbersOn j laid) ≡ length (j .variables)
+        long = length-table (numberOn laid) (length (j .variables))
 
-        at : (i : ℕ) → i < length (j .variables) → number (numbersOn j (laidOut j x w ++ rest)) i ≡ number x i
-        at i h = table-at (numberOn (laidOut j x w ++ rest)) (length (j .variables)) i (pos 0) h ∙ number-back j x w rest i h (number-within i h)
+        at : (i : ℕ) → i < length (j .variables) → number (numbersOn j laid) i ≡ number (best j) i
+        at i h = table-at (numberOn laid) (length (j .variables)) i (pos 0) h ∙ number-back (findings j) rest i h (number-within (best j) s i h)
 
-    objective-back : (rest : List ℕ) → worthOn (laidOut j x (objective j x) ++ rest) ≡ objective j x
-    objective-back rest = worth-back j x (objective j x) rest (within-holds 8 (length (j .variables) * (1000000 * bound)) (objective j x) (omega (arith, f .variables)) objective-within)
+    objective-back : worthOn (laidOut (findings j) ++ rest) ≡ objective j (best j)
+    objective-back = worth-back (findings j) rest (within-holds 8 (length (j .variables) * (1000000 * bound)) (objective j (best j)) (omega (arith, f .variables)) (objective-within (best j) s))
 
 module _ (s area : List ℕ) where
   abbrev pub fault : Option Reason
   fault = firstBroken (short? (jobOf s) area) s
 
-  pub verdict-is : verdict s area ≡ outcome (jobOf s) fault (firstWithout (jobOf s))
+  pub verdict-is : verdict s area ≡ outcome fault (firstWithout (jobOf s)) (objective (jobOf s) (best (jobOf s)))
   unfolding verdict
   verdict-is = refl
 
   pub planned-when : (w : ℤ) → verdict s area ≡ planned w → (fault ≡ none) × ((firstWithout (jobOf s) ≡ none) × (objective (jobOf s) (best (jobOf s)) ≡ w))
-  planned-when w e = was-planned (jobOf s) fault (firstWithout (jobOf s)) w (subst (λ v. IsPlanned v w) (sym e ∙ verdict-is) refl)
+  planned-when w e = was-planned (objective (jobOf s) (best (jobOf s))) fault (firstWithout (jobOf s)) w (subst (λ v. IsPlanned v w) (sym e ∙ verdict-is) refl)
 
   noFit-when : (l : ℕ) → verdict s area ≡ noFit l → (fault ≡ none) × (firstWithout (jobOf s) ≡ some l)
-  noFit-when l e = was-noFit (jobOf s) fault (firstWithout (jobOf s)) l (subst (λ v. IsNoFit v l) (sym e ∙ verdict-is) refl)
+  noFit-when l e = was-noFit (objective (jobOf s) (best (jobOf s))) fault (firstWithout (jobOf s)) l (subst (λ v. IsNoFit v l) (sym e ∙ verdict-is) refl)
 
   refused-when : (p q : ℕ) → verdict s area ≡ refused p q → (r : Reason) × ((fault ≡ some r) × ((numberOf r ≡ p) × (rowOf r ≡ q)))
-  refused-when p q e = was-refused (jobOf s) fault (firstWithout (jobOf s)) p q (subst (λ v. IsRefused v p q) (sym e ∙ verdict-is) (refl, refl))
+  refused-when p q e = was-refused (objective (jobOf s) (best (jobOf s))) fault (firstWithout (jobOf s)) p q (subst (λ v. IsRefused v p q) (sym e ∙ verdict-is) (refl, refl))
 
   -- what is reported is what is found first
   pub reported : (r : Reason) → IsFirst (ShortFor (jobOf s) area) s r → fault ≡ some r
@@ -150,7 +158,7 @@ module _ (s area : List ℕ) where
       from : (p q : ℕ) → (r : Reason) × ((numberOf r ≡ p) × ((rowOf r ≡ q) × IsFirst (ShortFor (jobOf s) area) s r)) → verdict s area ≡ refused p q
       from p q (r, h) =
           verdict-is
-          ∙ ap (λ o. outcome (jobOf s) o (firstWithout (jobOf s))) (reported r (h .1 .1))
+          ∙ ap (λ o. outcome o (firstWithout (jobOf s)) (objective (jobOf s) (best (jobOf s)))) (reported r (h .1 .1))
           ∙ ap₂ refused (h .0) (h .1 .0)
 
       long : (w : ℤ) → verdict s area ≡ planned w → sheetLength (jobOf s) ≤ length area
@@ -165,19 +173,14 @@ module _ (s area : List ℕ) where
     optimal-of = let (o, h) = planned-when w e in optimal-best (jobOf s) (lawful-of o) (h .0)
 
     -- what stands on the sheet
+    abbrev rest : List ℕ
+    rest = drop (length (laidOut (findings (jobOf s)))) area
+
     numbers-of : numbersOn (jobOf s) (sheet s area) ≡ best (jobOf s)
-    numbers-of =
-        ap (numbersOn (jobOf s)) (if-planned s area e)
-        ∙ numbers-back (jobOf s) (lawful-of (planned-when w e .0)) (best (jobOf s)) (optimal-of .solution) w (drop (sheetLength (jobOf s)) area)
+    numbers-of = let (o, h) = planned-when w e in ap (numbersOn (jobOf s)) (if-planned s area e) ∙ numbers-back (jobOf s) (lawful-of o) (h .0) rest
 
     worth-of : worthOn (sheet s area) ≡ w
-    worth-of =
-        let rest = drop (sheetLength (jobOf s)) area in
-        let q : objective (jobOf s) (best (jobOf s)) ≡ w = planned-when w e .1 .1 in
-        ap worthOn (if-planned s area e)
-        ∙ ap (λ z. worthOn (laidOut (jobOf s) (best (jobOf s)) z ++ rest)) (sym q)
-        ∙ objective-back (jobOf s) (lawful-of (planned-when w e .0)) (best (jobOf s)) (optimal-of .solution) rest
-        ∙ q
+    worth-of = let (o, h) = planned-when w e in ap worthOn (if-planned s area e) ∙ objective-back (jobOf s) (lawful-of o) (h .0) rest ∙ h .1
 
   pub cannot-be-bettered : CannotBeBettered s area (verdict s area) (sheet s area)
   cannot-be-bettered = record {
@@ -193,7 +196,7 @@ module _ (s area : List ℕ) where
   pub laid-out : (w : ℤ) → verdict s area ≡ planned w → LaidOut (jobOf s) (sheet s area)
   laid-out w e =
       let f = lawful-of (planned-when w e .0) in
-      subst (LaidOut (jobOf s)) (sym (if-planned s area e)) (laidOut-back (jobOf s) (best (jobOf s)) w (drop (sheetLength (jobOf s)) area) (omega (arith, f .variables)))
+      subst (LaidOut (jobOf s)) (sym (if-planned s area e)) (laidOut-back (jobOf s) (drop (length (laidOut (findings (jobOf s)))) area) (omega (arith, f .variables)))
 
   -- and "no fit" only when there is none
   pub no-fit-only : (l : ℕ) → verdict s area ≡ noFit l → NoneFits (jobOf s) l × (sheet s area ≡ area)

@@ -11,6 +11,8 @@ pub mod Solution
 pub mod Component
 -- what is read off the fit-outs of one group
 pub mod Family
+-- all that a report shows
+pub mod Findings
 -- the table of reasons
 pub mod Table
 -- statements that can be decided
@@ -19,7 +21,7 @@ pub mod Decide
 pub mod Faults
 -- the outcome of a plan
 pub mod Verdict
--- the answer area after it
+-- the layout of the sheet, and the answer area after a plan
 pub mod Sheet
 -- the three demands
 pub mod Demands

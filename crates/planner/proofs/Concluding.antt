@@ -18,14 +18,14 @@ use Rattle.runs.proofs.Turns.{FamilyRun}
 use Rattle.jobs.specs.Job.{Job, jobOf, variable, variableCount}
 use Rattle.jobs.specs.Solution.{best}
 use Rattle.jobs.specs.Component.{lowest, leads, componentCount}
-use Rattle.jobs.specs.Family.{componentJob, fits}
+use Rattle.jobs.specs.Family.{componentJob, fits, familyRun}
 use Rattle.jobs.specs.Verdict.{firstWithout}
 use Rattle.jobs.specs.Sheet.{laidOut}
 use Rattle.jobs.proofs.Components.{in-leads, lowest-le, lowest-self}
 use Rattle.jobs.proofs.Assembly.{without-iff}
 use Rattle.jobs.proofs.Fields.{length-laidOut}
 use Rattle.jobs.proofs.Lawful.{Lawful, lawful-job, variables-of}
-use Rattle.families.specs.Family.{familyRun, choice}
+use Rattle.families.specs.Family.{choice}
 use Rattle.families.specs.Plan.{leadsBy, componentBy, headerRow, variableRow, groupRow, emptyBy, gainBy, chosenBy, numberBy, worthBy, variableRows, groupRows, laidOutBy}
 use Rattle.families.proofs.Exact.{family-run-is, family-form}
 use Rattle.families.proofs.Planned.{leads-by, empty-by, worth-by, laid-by}

@@ -14,7 +14,7 @@ use Rattle.jobs.specs.declared.Equation.{Equation}
 use Rattle.jobs.specs.Job.{Job, jobOf, equationRow, equationFrom, form, variable, equation, noEquation}
 use Rattle.jobs.proofs.Lawful.{LawfulJob, lawful-job, variables-of, equations-of}
 use Rattle.jobs.specs.Component.{lowest}
-use Rattle.families.specs.Family.{familyRun}
+use Rattle.jobs.specs.Family.{familyRun}
 use Rattle.families.specs.Model.{Indices as Pair, interval, kept}
 use Rattle.solver.specs.declared.join.Indices.{Indices}
 use Rattle.solver.specs.Analysis.{Families}

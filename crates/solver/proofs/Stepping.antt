@@ -16,7 +16,7 @@ use Rattle.jobs.specs.Component.{merged, lowestBy, lowest}
 use Rattle.jobs.proofs.Lawful.{LawfulJob, LawfulEquation}
 use Rattle.jobs.proofs.Components.{lowestBy-le}
 use Rattle.families.specs.Model.{State, groupAt, runAt, Indices as Pair, interval, start, runAfter, kept, change, next, familiesBy, families}
-use Rattle.families.specs.Family.{familyRun}
+use Rattle.jobs.specs.Family.{familyRun}
 use Rattle.families.proofs.Begins.{began-is, group-at, run-at}
 use Rattle.families.proofs.Invariants.{Reached, reached, invariant, change-none, group-after, run-after}
 use Rattle.families.proofs.Labels.{next-label}

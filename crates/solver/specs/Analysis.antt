@@ -8,7 +8,7 @@ use Rattle.runs.specs.Run.{empty}
 use Rattle.jobs.specs.Job.{Job, jobOf}
 use Rattle.jobs.specs.Component.{lowest, componentCount}
 use Rattle.jobs.specs.Faults.{accepted, checked}
-use Rattle.families.specs.Family.{familyRun}
+use Rattle.jobs.specs.Family.{familyRun}
 pub use Rattle.solver.specs.declared.State.{State}
 pub use Rattle.solver.specs.declared.Analysis.{Analysis}
 
