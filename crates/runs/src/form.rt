@@ -1,7 +1,7 @@
 //! The tests on which a working refuses.
 
 ghost use mathlib.Core.Path.{_≡_};
-ghost use Prim.Native.Nat.{ℕ, _≤_};
+ghost use Prim.Native.Nat.{_≤_};
 ghost use Rattle.runs.specs.Run.{isOneForm};
 ghost use Rattle.runs.specs.Workings.{isCoefficient, inLimits};
 use crate::Equation;

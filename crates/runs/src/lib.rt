@@ -3,7 +3,7 @@
 //! Read `specs/Lib.antt` for the definitions, then this file, then the modules from the bottom up.
 
 ghost use mathlib.Core.Path.{_≡_};
-ghost use Prim.Native.Nat.{ℕ, _≤_};
+ghost use Prim.Native.Nat.{_≤_};
 ghost use Rattle.runs.specs.Run.{OneForm, full, empty};
 ghost use Rattle.runs.specs.Search.{meet, carry};
 ghost use Rattle.runs.specs.Workings.{InLimits, answerOf, RefusedUnless, meeting, carrying};

@@ -1,9 +1,9 @@
 //! Carrying, for an equation a·p + b·q = c with a above 0: which p have their partner in a run of q.
 
 ghost use mathlib.Core.Path.{_≡_};
-ghost use Prim.Native.Nat.{ℕ, _≤_};
+ghost use Prim.Native.Nat.{_≤_};
 ghost use lib.IntN.{pos};
-ghost use lib.Signed.{_≤ℤ_, _<ℤ_};
+ghost use lib.Signed.{_<ℤ_};
 ghost use Rattle.ints.specs.Within.{Within};
 ghost use Rattle.runs.specs.Run.{OneForm, bound};
 ghost use Rattle.runs.specs.Workings.{InLimits};
