@@ -10,7 +10,7 @@ use lib.ListN.{length}
 use Rattle.ints.proofs.{ℤ, pos, _<ℤ_}
 use Rattle.runs.specs.declared.Run.{Run}
 use Rattle.runs.specs.Run.{nth}
-use Rattle.runs.proofs.Turns.{FamilyRun}
+use Rattle.families.specs.FamilyRun.{FamilyRun}
 use Rattle.jobs.specs.Job.{Job, equation}
 use Rattle.jobs.specs.Solution.{value}
 use Rattle.jobs.specs.Component.{lowestBy}

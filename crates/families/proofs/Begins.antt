@@ -17,9 +17,10 @@ use Rattle.runs.specs.Method.{progression}
 use Rattle.runs.proofs.Members.{empty-form, not-in-empty}
 use Rattle.runs.proofs.Progressions.{Along}
 use Rattle.runs.proofs.Clips.{in-progression, progression-form, full-form}
-use Rattle.runs.proofs.Model.{meetModel, meet-model}
+use Rattle.runs.specs.Model.{meetModel}
+use Rattle.runs.proofs.Model.{meet-model}
 use Rattle.runs.proofs.Laws.{meet-form, in-meet, in-full}
-use Rattle.runs.proofs.Turns.{one-form-family}
+use Rattle.families.proofs.FamilyRuns.{one-form-family}
 use Rattle.jobs.specs.Job.{Job, variable}
 use Rattle.jobs.specs.Solution.{number}
 use Rattle.jobs.specs.Component.{lowestBy}

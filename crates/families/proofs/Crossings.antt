@@ -19,11 +19,13 @@ use Rattle.runs.specs.Run.{nth, InRun, OneForm, empty}
 use Rattle.runs.specs.Search.{meet, carry, Partner}
 use Rattle.runs.specs.Workings.{InLimits}
 use Rattle.runs.proofs.Members.{no-place}
-use Rattle.runs.proofs.Model.{meetModel, meet-model, carry-model}
+use Rattle.runs.specs.Model.{meetModel}
+use Rattle.runs.proofs.Model.{meet-model, carry-model}
 use Rattle.runs.proofs.Laws.{carry-form}
-use Rattle.runs.proofs.Turns.{Moves, FamilyRun, upward, one-form-moves, turned-moves, in-turned, upward-form}
-use Rattle.runs.proofs.Indices.{ratio, indexOf, strideIn, Indexed, turned-indexed, across, Across, at-across, across-turned, across-moves}
-use Rattle.runs.proofs.Joins.{join-form, in-join, join-partners, left, right}
+use Rattle.families.specs.FamilyRun.{Moves, FamilyRun, upward, ratio, indexOf, strideIn, across}
+use Rattle.families.proofs.FamilyRuns.{one-form-moves, turned-moves, in-turned, upward-form}
+use Rattle.families.proofs.ExactQuotients.{Indexed, turned-indexed, Across, at-across, across-turned, across-moves}
+use Rattle.families.proofs.JoinedRuns.{join-form, in-join, join-partners, left, right}
 use Rattle.families.specs.Model.{leading, downwards, Indices, common, places, directed, join}
 use Rattle.families.proofs.Parts.{Holds, Picks, pick, pick-is, pick-below, picks-empty, index-only}
 

@@ -13,8 +13,8 @@ use Rattle.lists.proofs.Table.{length-table, table-at}
 use Rattle.runs.specs.declared.Run.{Run}
 use Rattle.runs.specs.Run.{nth, empty}
 use Rattle.runs.proofs.Members.{same-run}
-use Rattle.runs.proofs.Indices.{few-or-more}
-use Rattle.runs.proofs.Turns.{FamilyRun}
+use Rattle.families.proofs.ExactQuotients.{few-or-more}
+use Rattle.families.specs.FamilyRun.{FamilyRun}
 use Rattle.jobs.specs.Job.{Job}
 use Rattle.jobs.specs.Solution.{number, IsSolution, solutions}
 use Rattle.jobs.specs.Component.{lowest, leads}

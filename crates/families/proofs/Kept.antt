@@ -11,7 +11,7 @@ use Rattle.runs.specs.declared.Run.{Run}
 use Rattle.runs.specs.declared.Equation.{Equation as Form}
 use Rattle.runs.specs.Run.{nth, InRun}
 use Rattle.runs.specs.Workings.{InLimits}
-use Rattle.runs.proofs.Turns.{FamilyRun}
+use Rattle.families.specs.FamilyRun.{FamilyRun}
 use Rattle.families.specs.Model.{leading, Indices, cycle, common, join, both, kept}
 use Rattle.families.proofs.Parts.{Holds, Picks, pick, pick-is, pick-below}
 use Rattle.families.proofs.Cycles.{Remains, cycle-leaves}

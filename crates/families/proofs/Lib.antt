@@ -3,6 +3,12 @@
 
 -- lines that rise, fall or are level
 pub mod Lines
+-- a variable's run in its family, upwards and downwards
+pub mod FamilyRuns
+-- where the numbers of one run and their partners stand in another: exact quotients
+pub mod ExactQuotients
+-- an equation between the runs of two families
+pub mod JoinedRuns
 -- part of a family: the members at some of its indices
 pub mod Parts
 -- an equation inside a group

@@ -12,9 +12,10 @@ use Rattle.ints.proofs.Products.{cancel}
 use Rattle.runs.specs.declared.Run.{Run}
 use Rattle.runs.specs.declared.Equation.{Equation as Form}
 use Rattle.runs.specs.Run.{nth, InRun, empty}
-use Rattle.runs.proofs.Turns.{Moves, FamilyRun, one-form-moves}
+use Rattle.families.specs.FamilyRun.{Moves, FamilyRun}
+use Rattle.families.proofs.FamilyRuns.{one-form-moves}
 use Rattle.runs.proofs.Members.{empty-form}
-use Rattle.runs.proofs.Indices.{index-one}
+use Rattle.families.proofs.ExactQuotients.{index-one}
 use Rattle.families.specs.Model.{Indices, membersAt, through, runAfter}
 
 -- the equation holds at p and q

@@ -20,7 +20,7 @@ use Rattle.lists.proofs.Sums.{sum-ext, sum-within}
 use Rattle.lists.proofs.Table.{in-upTo}
 use Rattle.runs.specs.declared.Run.{Run}
 use Rattle.runs.specs.Run.{bound}
-use Rattle.runs.proofs.Turns.{FamilyRun}
+use Rattle.families.specs.FamilyRun.{FamilyRun}
 use Rattle.jobs.specs.Decide.{equal?, firstOf}
 use Rattle.jobs.specs.Job.{Job, jobOf, variable}
 use Rattle.jobs.specs.Solution.{number, objective, best}

@@ -9,7 +9,7 @@ use Rattle.ints.proofs.Order.{below-or-above}
 use Rattle.runs.specs.declared.Run.{Run}
 use Rattle.runs.specs.Run.{bound, nth}
 use Rattle.runs.proofs.Clips.{one-less}
-use Rattle.runs.proofs.Turns.{FamilyRun}
+use Rattle.families.specs.FamilyRun.{FamilyRun}
 
 -- how many there are: none, one or more
 data Size (n : ℕ) : Type 0 where

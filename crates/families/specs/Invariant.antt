@@ -8,7 +8,7 @@ use lib.IntN.{ℤ, pos}
 use lib.Signed.{_≤ℤ_, _<ℤ_}
 use Rattle.runs.specs.declared.Run.{Run}
 use Rattle.runs.specs.Run.{nth}
-use Rattle.runs.proofs.Turns.{FamilyRun}
+use Rattle.families.specs.FamilyRun.{FamilyRun}
 use Rattle.jobs.specs.Job.{Job, variable, equation}
 use Rattle.jobs.specs.Solution.{number, value}
 use Rattle.jobs.specs.Component.{lowestBy}

@@ -2,6 +2,8 @@
 
 -- the solutions of a group as a family, and the choice in it
 pub mod Family
+-- a variable's run in the family of its group, and where its numbers stand in another
+pub mod FamilyRun
 -- the planner's steps as functions on lists
 pub mod Model
 -- what is known of the model's state after some of the equations

@@ -15,9 +15,8 @@ use Rattle.runs.specs.declared.Run.{Run}
 use Rattle.runs.specs.declared.Equation.{Equation as Form}
 use Rattle.runs.specs.Run.{empty, full}
 use Rattle.runs.specs.Method.{progression}
-use Rattle.runs.proofs.Model.{meetModel, carryModel}
-use Rattle.runs.proofs.Turns.{turned, upward}
-use Rattle.runs.proofs.Indices.{indexOf, strideIn, across}
+use Rattle.runs.specs.Model.{meetModel, carryModel}
+use Rattle.families.specs.FamilyRun.{turned, upward, indexOf, strideIn, across}
 use Rattle.jobs.specs.declared.Equation.{Equation}
 use Rattle.jobs.specs.Job.{Job, form, variable, equation}
 use Rattle.jobs.specs.Component.{merged}

@@ -7,7 +7,7 @@ use Rattle.ints.proofs.{ℤ, arith}
 use Rattle.ints.proofs.Signed.{held}
 use Rattle.runs.specs.declared.Run.{Run}
 use Rattle.runs.specs.Run.{bound}
-use Rattle.runs.proofs.Turns.{FamilyRun}
+use Rattle.families.specs.FamilyRun.{FamilyRun}
 use Rattle.families.specs.Family.{choice}
 use Rattle.families.proofs.Choices.{choice-below}
 use Rattle.families.proofs.Sizes.{member-within}

@@ -14,7 +14,7 @@ use Rattle.lists.proofs.Maps.{flatMap-same}
 use Rattle.lists.proofs.Sums.{sum-ext}
 use Rattle.lists.proofs.Table.{in-upTo, table-at}
 use Rattle.runs.specs.declared.Run.{Run}
-use Rattle.runs.proofs.Turns.{FamilyRun}
+use Rattle.families.specs.FamilyRun.{FamilyRun}
 use Rattle.jobs.specs.Job.{Job, jobOf, variable, variableCount}
 use Rattle.jobs.specs.Solution.{best}
 use Rattle.jobs.specs.Component.{lowest, leads, componentCount}

@@ -7,7 +7,7 @@ use lib.IntN.{ℤ, pos, _+ℤ_, _*ℤ_}
 use Rattle.lists.specs.Sums.{sum}
 use Rattle.lists.specs.Table.{table, upTo}
 use Rattle.runs.specs.declared.Run.{Run}
-use Rattle.runs.proofs.Turns.{FamilyRun}
+use Rattle.families.specs.FamilyRun.{FamilyRun}
 use Rattle.jobs.specs.Job.{Job, variable}
 use Rattle.families.specs.Family.{choice}
 use Rattle.families.specs.Plan.{leadsBy, componentBy, headerRow, variableRow, groupRow, gainBy}

@@ -4,7 +4,7 @@ ghost use mathlib.Core.Path.{_≡_};
 ghost use Prim.Native.Nat.{_+_, _*_, _≤_, _<_};
 ghost use lib.ListN.{length};
 ghost use Rattle.ints.specs.Within.{Within};
-ghost use Rattle.runs.proofs.Turns.{FamilyRun};
+ghost use Rattle.families.specs.FamilyRun.{FamilyRun};
 ghost use Rattle.jobs.specs.Sheet.{answerMark};
 ghost use Rattle.families.specs.Family.{choice};
 ghost use Rattle.families.specs.Plan.{leadsBy, headerRow, variableRow, groupRow};

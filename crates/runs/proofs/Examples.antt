@@ -9,7 +9,8 @@ use Rattle.runs.specs.Run.{Run, OneForm, numbers, isOneForm, empty, full
 use Rattle.runs.specs.Search.{meet, carry}
 use Rattle.runs.specs.Workings.{Equation, inLimits}
 use Rattle.runs.proofs.Clips.{full-form}
-use Rattle.runs.proofs.Model.{meetModel, carryModel, meet-model, carry-model}
+use Rattle.runs.specs.Model.{meetModel, carryModel}
+use Rattle.runs.proofs.Model.{meet-model, carry-model}
 use Rattle.runs.proofs.Laws.{carry-form}
 use Rattle.runs.proofs.Refusals.{one-form-iff, in-limits-iff}
 

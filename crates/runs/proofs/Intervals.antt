@@ -3,7 +3,6 @@ use mathlib.Core.Path.{_≡_, refl}
 use mathlib.Core.Logic.{_↔_}
 use mathlib.Core.Bool.{Bool, true, false, cond}
 use mathlib.Core.List.{[], _∷_}
-use Prim.Native.Nat.{_≤_}
 use Rattle.ints.proofs.{ℤ, ltZ, _≤ℤ_, arith, lin, facts}
 use Rattle.runs.specs.Method.{Interval, InInterval, greater, smaller, common}
 

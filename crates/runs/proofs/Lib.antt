@@ -1,5 +1,5 @@
--- The laws of runs, in the order in which they rest on each other. Other crates go by Laws, Turns,
--- Indices and Joins, compute with Model, and find in Refusals when a working refuses.
+-- The laws of runs, in the order in which they rest on each other. Other crates go by Laws, compute with the model
+-- that Model is about, and find in Refusals when a working refuses.
 
 -- a run's numbers; a run in its one form is determined by its members
 pub mod Members
@@ -23,16 +23,10 @@ pub mod Widths
 pub mod Meets
 -- carrying: the model is the definition
 pub mod Carries
--- the workings as functions that compute
+-- the model of the workings is the definitions
 pub mod Model
 -- the members of a meet and of what is carried; back and forth between two runs
 pub mod Laws
--- a run whose step may have either sign, and the same run downwards
-pub mod Turns
--- where the numbers of one run stand in another: exact quotients
-pub mod Indices
--- an equation between the runs of two families: what the family proof will ask
-pub mod Joins
 -- the tests on which a working refuses, and that it refuses just there
 pub mod Refusals
 -- document 01's jobs with one equation, through the definitions

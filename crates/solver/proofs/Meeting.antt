@@ -13,9 +13,10 @@ use Rattle.runs.specs.declared.Equation.{Equation}
 use Rattle.runs.specs.Search.{meet, carry}
 use Rattle.runs.specs.Workings.{InLimits}
 use Rattle.runs.proofs.Clips.{one-less}
-use Rattle.runs.proofs.Turns.{FamilyRun, one-form-moves, one-form-family, upward}
-use Rattle.runs.proofs.Indices.{ratio, Indexed, across, across-in, across-moves}
-use Rattle.runs.proofs.Joins.{join-form, in-join, join-partners, left, right}
+use Rattle.families.specs.FamilyRun.{FamilyRun, upward, ratio, across}
+use Rattle.families.proofs.FamilyRuns.{one-form-moves, one-form-family}
+use Rattle.families.proofs.ExactQuotients.{Indexed, across-in, across-moves}
+use Rattle.families.proofs.JoinedRuns.{join-form, in-join, join-partners, left, right}
 use Rattle.families.specs.Model.{indicesIn}
 use Rattle.families.proofs.Sizes.{many-within}
 use Rattle.solver.specs.Widths.{Turnable, Crossable}

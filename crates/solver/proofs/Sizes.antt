@@ -9,7 +9,7 @@ use Rattle.ints.specs.Within.{Within}
 use Rattle.ints.proofs.{ℤ, pos, [], _∷_, arith, lin, _&_, facts, signed}
 use Rattle.ints.proofs.Signed.{held}
 use Rattle.runs.specs.declared.Run.{Run}
-use Rattle.runs.proofs.Turns.{FamilyRun}
+use Rattle.families.specs.FamilyRun.{FamilyRun}
 use Rattle.families.proofs.Sizes.{first-within, step-within, last-within}
 use Rattle.solver.specs.Widths.{Turnable, Crossable}
 

@@ -5,7 +5,7 @@ use Prim.Native.Nat.{ℕ, _<_}
 use lib.ListN.{getD}
 use Rattle.runs.specs.declared.Run.{Run}
 use Rattle.runs.specs.Run.{empty}
-use Rattle.runs.proofs.Turns.{FamilyRun}
+use Rattle.families.specs.FamilyRun.{FamilyRun}
 use Rattle.families.specs.Model.{Indices as Pair, runAfter}
 use Rattle.solver.specs.Arrays.{Holds}
 use Rattle.solver.specs.declared.cycle.Remains.{Remains}

@@ -5,7 +5,7 @@ ghost use mathlib.Core.Logic.{_≢_};
 ghost use lib.IntN.{pos, _+ℤ_, _*ℤ_};
 ghost use Rattle.ints.specs.Within.{Within};
 ghost use Rattle.runs.specs.Workings.{InLimits};
-ghost use Rattle.runs.proofs.Turns.{FamilyRun};
+ghost use Rattle.families.specs.FamilyRun.{FamilyRun};
 ghost use Rattle.families.specs.Model.{inRange, candidate, cycle};
 ghost use Rattle.solver.specs.Steps.{remainsBy};
 use runs::Equation;

@@ -3,7 +3,7 @@
 ghost use mathlib.Core.Path.{_≡_};
 ghost use Prim.Native.Nat.{_≤_, _<_};
 ghost use Rattle.runs.specs.Workings.{InLimits};
-ghost use Rattle.runs.proofs.Turns.{FamilyRun};
+ghost use Rattle.families.specs.FamilyRun.{FamilyRun};
 ghost use Rattle.jobs.specs.Job.{jobOf, variableCount, equationCount};
 ghost use Rattle.jobs.proofs.Lawful.{Lawful};
 ghost use Rattle.families.specs.Model.{kept, runAfter};

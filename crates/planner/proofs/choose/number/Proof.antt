@@ -9,7 +9,7 @@ use Rattle.ints.specs.Within.{Within}
 use Rattle.ints.proofs.{ℤ, pos, _+ℤ_, _*ℤ_, _∷_, [], arith, lin, facts, within-mul}
 use Rattle.ints.proofs.Signed.{held, cast}
 use Rattle.runs.specs.declared.Run.{Run}
-use Rattle.runs.proofs.Turns.{FamilyRun}
+use Rattle.families.specs.FamilyRun.{FamilyRun}
 use Rattle.families.specs.Family.{choice}
 use Rattle.families.proofs.Choices.{choice-below}
 use Rattle.families.proofs.Sizes.{member-within, step-within, many-within}

@@ -16,7 +16,7 @@ use Rattle.runs.specs.declared.Run.{Run}
 use Rattle.runs.specs.declared.Equation.{Equation}
 use Rattle.runs.specs.Run.{empty}
 use Rattle.runs.specs.Workings.{InLimits}
-use Rattle.runs.proofs.Turns.{FamilyRun}
+use Rattle.families.specs.FamilyRun.{FamilyRun}
 use Rattle.runs.proofs.Widths.{fits-c}
 use Rattle.families.specs.Model.{coefficient, value, candidate, cycle}
 use Rattle.families.proofs.Sizes.{first-within, step-within}

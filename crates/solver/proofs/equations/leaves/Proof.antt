@@ -9,7 +9,7 @@ use Rattle.runs.specs.declared.Run.{Run}
 use Rattle.runs.specs.declared.Equation.{Equation}
 use Rattle.runs.specs.Search.{meet, carry}
 use Rattle.runs.specs.Workings.{InLimits}
-use Rattle.runs.proofs.Turns.{FamilyRun, upward}
+use Rattle.families.specs.FamilyRun.{FamilyRun, upward}
 use Rattle.families.specs.Model.{Indices, both, cycle, join, kept}
 use Rattle.families.proofs.Crossings.{common-is}
 use Rattle.solver.specs.declared.cycle.Remains.{Remains}

@@ -10,7 +10,7 @@ use Rattle.ints.proofs.Signed.{held}
 use Rattle.runs.specs.declared.Run.{Run}
 use Rattle.runs.specs.declared.Equation.{Equation}
 use Rattle.runs.specs.Workings.{InLimits}
-use Rattle.runs.proofs.Indices.{across}
+use Rattle.families.specs.FamilyRun.{across}
 use Rattle.runs.proofs.Widths.{fits-a, fits-b}
 use Rattle.solver.specs.Widths.{Crossable}
 use Rattle.solver.proofs.Sizes.{held-first, held-step}

@@ -12,8 +12,8 @@ use Rattle.runs.specs.Run.{OneForm, empty}
 use Rattle.runs.specs.Search.{meet, carry}
 use Rattle.runs.specs.Workings.{InLimits}
 use Rattle.runs.proofs.Laws.{carry-form}
-use Rattle.runs.proofs.Turns.{FamilyRun, upward, upward-form}
-use Rattle.runs.proofs.Indices.{across}
+use Rattle.families.specs.FamilyRun.{FamilyRun, upward, across}
+use Rattle.families.proofs.FamilyRuns.{upward-form}
 use Rattle.families.specs.Model.{Indices as Pair, indicesIn, directed, join}
 use Rattle.solver.specs.Widths.{Turnable, Crossable}
 use Rattle.solver.proofs.Sizes.{crossable}

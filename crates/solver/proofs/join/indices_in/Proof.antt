@@ -7,7 +7,7 @@ use Rattle.ints.specs.Within.{Within}
 use Rattle.ints.proofs.{ℤ, _-ℤ_, [], _∷_, arith, lin, _&_, facts}
 use Rattle.ints.proofs.Signed.{held}
 use Rattle.runs.specs.declared.Run.{Run}
-use Rattle.runs.proofs.Indices.{ratio}
+use Rattle.families.specs.FamilyRun.{ratio}
 use Rattle.families.specs.Model.{indicesIn}
 use Rattle.solver.specs.Widths.{Crossable}
 use Rattle.solver.proofs.Sizes.{fits, held-first, held-step}

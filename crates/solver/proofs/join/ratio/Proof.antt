@@ -14,7 +14,7 @@ use Rattle.ints.proofs.{ℤ, pos}
 use Rattle.ints.proofs.Equal.{equal-true}
 use Rattle.ints.proofs.Signed.{held, bits-zero}
 use Rattle.ints.proofs.Answers.{asked, answered}
-use Rattle.runs.proofs.Indices.{ratio}
+use Rattle.families.specs.FamilyRun.{ratio}
 use Rattle.solver.proofs.join.ratio.Statement.{statement}
 use Rattle.solver.proofs.join.ratio.Tie as tie
 

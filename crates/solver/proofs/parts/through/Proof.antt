@@ -11,7 +11,7 @@ use Rattle.ints.proofs.{_+ℤ_, _*ℤ_, [], _∷_, arith, lin, _&_, signed}
 use Rattle.ints.proofs.Signed.{held}
 use Rattle.runs.specs.declared.Run.{Run}
 use Rattle.runs.specs.Run.{empty}
-use Rattle.runs.proofs.Turns.{FamilyRun}
+use Rattle.families.specs.FamilyRun.{FamilyRun}
 use Rattle.families.specs.Model.{through}
 use Rattle.families.proofs.Sizes.{first-within, step-within}
 use Rattle.solver.proofs.Sizes.{fits}

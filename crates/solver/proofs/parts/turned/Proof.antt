@@ -8,7 +8,7 @@ use mir.Facts.{toZ-ofZ}
 use Rattle.ints.proofs.{ℤ, pos, negℤ, _+ℤ_, _-ℤ_, _*ℤ_, [], _∷_, arith, lin, lin₀, _&_, facts, signed}
 use Rattle.ints.proofs.Signed.{held, cast}
 use Rattle.runs.specs.declared.Run.{Run}
-use Rattle.runs.proofs.Turns.{turned}
+use Rattle.families.specs.FamilyRun.{turned}
 use Rattle.solver.specs.Widths.{Turnable}
 use Rattle.solver.proofs.Sizes.{fits}
 use Rattle.solver.proofs.parts.turned.Statement.{statement}

@@ -3,12 +3,15 @@
 use mathlib.Core.Logic.{_↔_, Iff·trans}
 use Prim.Native.Nat.{_≤_}
 use Rattle.ints.proofs.{ℤ, pos, negℤ, _+ℤ_, _-ℤ_, _*ℤ_}
-use Rattle.runs.specs.Run.{Run, InRun, OneForm}
+use Rattle.runs.specs.declared.Run.{Run}
+use Rattle.runs.specs.Run.{InRun, OneForm}
 use Rattle.runs.specs.Search.{meet, Partner, carry}
-use Rattle.runs.specs.Workings.{Equation, InLimits}
+use Rattle.runs.specs.declared.Equation.{Equation}
+use Rattle.runs.specs.Workings.{InLimits}
 use Rattle.runs.proofs.Laws.{joined-form, in-joined}
-use Rattle.runs.proofs.Turns.{FamilyRun, turned, upward, in-upward, upward-form, one-form-moves}
-use Rattle.runs.proofs.Indices.{indexOf, strideIn, Indexed, indexed, turned-indexed, across, Across, is-across, partner-indexed}
+use Rattle.families.specs.FamilyRun.{FamilyRun, turned, upward, indexOf, strideIn, across}
+use Rattle.families.proofs.FamilyRuns.{in-upward, upward-form, one-form-moves}
+use Rattle.families.proofs.ExactQuotients.{Indexed, indexed, turned-indexed, Across, is-across, partner-indexed}
 
 module _ {e : Equation} (lim : InLimits e) {P Q : Run} (f : FamilyRun P) (g : FamilyRun Q) where
   -- the p that are joined, upwards

@@ -1,12 +1,12 @@
-//! Carrying, for an equation a·p + b·q = c with a above 0: which p have their partner in a run of q.
+//! The methods of `Equation`: its limits, and the parts of carrying, most of them for an a above 0.
 
 ghost use mathlib.Core.Path.{_≡_};
-ghost use Prim.Native.Nat.{ℕ, _≤_};
+ghost use Prim.Native.Nat.{_≤_};
 ghost use lib.IntN.{pos};
-ghost use lib.Signed.{_≤ℤ_, _<ℤ_};
+ghost use lib.Signed.{_<ℤ_};
 ghost use Rattle.ints.specs.Within.{Within};
 ghost use Rattle.runs.specs.Run.{OneForm, bound};
-ghost use Rattle.runs.specs.Workings.{InLimits};
+ghost use Rattle.runs.specs.Workings.{InLimits, isCoefficient, inLimits};
 ghost use Rattle.runs.specs.Method.{upright, value, placesWithPartner, Period, stepOf, between, image, AllSolutions, carryBy};
 ghost use Rattle.runs.specs.declared.congruence.Solutions.the-variants.{Every};
 use crate::Equation;
@@ -16,6 +16,18 @@ use crate::class::Interval;
 use crate::congruence::Congruence;
 
 impl Equation {
+    /// Are a, b and c within their limits?
+    pub fn in_limits(self) -> bool
+        ensures { λ r. ⌜ r ≡ inLimits self ⌝ }
+    {
+        if is_coefficient(self.a) {
+            if is_coefficient(self.b) {
+                return ints::is_within(2000000000000000, self.c);
+            }
+        }
+        false
+    }
+
     // The same equation with a above 0.
     pub(crate) fn upright(self) -> Equation
         requires { ⌜ InLimits self ⌝ }
@@ -116,4 +128,13 @@ impl Equation {
             high: ints::quotient(self.value(to), self.a),
         }
     }
+}
+
+fn is_coefficient(x: i64) -> bool
+    ensures { λ r. ⌜ r ≡ isCoefficient x ⌝ }
+{
+    if ints::is_within(1000000, x) {
+        return x != 0;
+    }
+    false
 }

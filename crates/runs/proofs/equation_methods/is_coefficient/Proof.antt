@@ -5,8 +5,8 @@ use borrow.Author.Needs.{needs}
 use mir.Syntax.{w64}
 use Rattle.ints.specs.Within.{isWithin}
 use Rattle.ints.proofs.Signed.{bits-zero, told}
-use Rattle.runs.proofs.form.is_coefficient.Statement.{statement}
-use Rattle.runs.proofs.form.is_coefficient.Tie as tie
+use Rattle.runs.proofs.equation_methods.is_coefficient.Statement.{statement}
+use Rattle.runs.proofs.equation_methods.is_coefficient.Tie as tie
 
 is-within-requires : tie.Need-is-within-requires
 is-within-requires c κs = search needs

@@ -1,19 +1,15 @@
--- A run whose step may have either sign, and the same run downwards.
+-- The run of a variable in its family: turned and upward it has the same numbers, and upward it is in the one form.
 use mathlib.Core.Path.{_≡_, refl, ap}
-use mathlib.Core.Logic.{_↔_, _≢_, Iff·trans, Iff·symm}
+use mathlib.Core.Logic.{_↔_, Iff·trans, Iff·symm}
 use mathlib.Core.Bool.{Bool, true, false, cond}
 use mathlib.Core.List.{[], _∷_}
 use Prim.Native.Nat.{ℕ, zero, suc, _≤_}
-use Rattle.ints.specs.Within.{Within}
 use Rattle.ints.proofs.{ℤ, pos, negℤ, ltZ, _+ℤ_, _-ℤ_, _*ℤ_, arith, lin, _&_, facts}
-use Rattle.runs.specs.Run.{Run, InRun, OneForm, bound}
+use Rattle.families.specs.FamilyRun.{Moves, FamilyRun, turned, upward}
+use Rattle.runs.specs.declared.Run.{Run}
+use Rattle.runs.specs.Run.{InRun, OneForm}
 use Rattle.runs.proofs.Progressions.{Along, in-along}
 use Rattle.runs.proofs.Intervals.{either}
-
--- the step is 0 exactly where there are fewer than two numbers
-pub record Moves (r : Run) : Type 0 where
-  pub moves : 2 ≤ r .many → r .step ≢ pos 0
-  pub rests : r .many ≤ 1 → r .step ≡ pos 0
 
 pub one-form-moves : {r : Run} → OneForm r → Moves r
 one-form-moves {r} o = record {
@@ -27,9 +23,6 @@ one-form-moves {r} o = record {
     go (suc (suc n)) e s h = absurd (omega (arith, h))
 
 -- ---- downwards
-abbrev pub turned : Run → Run
-turned r = record { first = r .first +ℤ r .step *ℤ (pos (r .many) -ℤ pos 1); step = negℤ (r .step); many = r .many }
-
 pub turned-moves : {r : Run} → Moves r → Moves (turned r)
 turned-moves {r} m = record {
   moves = λ h z. m .moves h (lin (r .step ∷ []) z (search facts depth 20) (omega arith));
@@ -59,18 +52,9 @@ in-turned r x = Iff·trans (in-along r x) (Iff·trans (to, from) (Iff·symm (in-
       is = lin (x ∷ r .first ∷ r .step ∷ n ∷ a .k ∷ []) (a .is) (search facts depth 20) (omega arith);
     }
 
--- ---- upwards: turned where it falls
-abbrev pub upward : Run → Run
-upward r = cond (ltZ (r .step) (pos 0)) (turned r) r
-
+-- ---- upwards
 pub in-upward : (r : Run) (x : ℤ) → InRun r x ↔ InRun (upward r) x
 in-upward r x = either (λ s. InRun r x ↔ InRun s x) (ltZ (r .step) (pos 0)) (in-turned r x) (λ h. h, λ h. h)
-
--- a variable's run in its family: as in the one form, but that it may fall
-pub record FamilyRun (r : Run) : Type 0 where
-  pub moves : Moves r
-  pub empty : r .many ≡ 0 → r .first ≡ pos 0
-  pub inside : (x : ℤ) → InRun r x → Within bound x
 
 pub one-form-family : {r : Run} → OneForm r → FamilyRun r
 one-form-family o = record { moves = one-form-moves o; empty = λ e. o .empty e .0; inside = o .inside }

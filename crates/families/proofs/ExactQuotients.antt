@@ -12,14 +12,12 @@ use Rattle.ints.proofs.Order.{abs-nonneg, nat-nonneg}
 use Rattle.ints.proofs.Products.{cancel}
 use Rattle.ints.proofs.Equal.{equal-true}
 use Rattle.ints.proofs.Divides.{floor-exact}
-use Rattle.runs.specs.Run.{Run, nth, InRun}
+use Rattle.families.specs.FamilyRun.{Moves, turned, ratio, indexOf, strideIn, across}
+use Rattle.runs.specs.declared.Run.{Run}
+use Rattle.runs.specs.Run.{nth, InRun}
 use Rattle.runs.specs.Search.{Partner}
-use Rattle.runs.proofs.Turns.{Moves, turned}
 
--- ---- the quotient, and 0 where the divisor is 0
-abbrev pub ratio : ℤ → ℤ → ℤ
-ratio n d = cond (isEqual d (pos 0)) (pos 0) (floorDiv n d)
-
+-- ---- the quotient
 ratio-none : (n d : ℤ) → d ≡ pos 0 → ratio n d ≡ pos 0
 ratio-none n d z = ap (λ t. cond t (pos 0) (floorDiv n d)) (equal-true d (pos 0) .1 z)
 
@@ -29,13 +27,6 @@ ratio-exact n d h = go (isEqual d (pos 0)) refl
     go : (t : Bool) → isEqual d (pos 0) ≡ t → d *ℤ cond t (pos 0) (floorDiv n d) ≡ n
     go true e = lin (n ∷ d ∷ h .factor ∷ []) (h .exact & ap (λ t. t *ℤ h .factor) (equal-true d (pos 0) .0 e)) (search facts depth 20) (omega arith)
     go false e = floor-exact n d (λ z. false≢true (sym e ∙ equal-true d (pos 0) .1 z)) h
-
--- ---- the index of a number x, and of a step s
-abbrev pub indexOf : Run → ℤ → ℤ
-indexOf r x = ratio (x -ℤ r .first) (r .step)
-
-abbrev pub strideIn : Run → ℤ → ℤ
-strideIn r s = ratio s (r .step)
 
 -- fewer than two, or not
 pub few-or-more : (n : ℕ) → (n ≤ 1) ⊎ (2 ≤ n)
@@ -151,9 +142,6 @@ turned-indexed {r} {R} {k₀} {kₜ} i = record { first = first; step = step; in
         lin (k₀ ∷ kₜ ∷ n ∷ pos k ∷ pos l ∷ pos (r .many) ∷ []) (i .inside l below & ap (λ t. kₜ *ℤ t) e) (search facts depth 20) (omega arith)
 
 -- ---- the partners q of the numbers p of R under a·p + b·q = c
-abbrev pub across : ℤ → ℤ → ℤ → Run → Run
-across a b c R = record { first = floorDiv (c -ℤ a *ℤ R .first) b; step = floorDiv (negℤ (a *ℤ R .step)) b; many = R .many }
-
 -- S is the run of them
 pub record Across (a b c : ℤ) (R S : Run) : Type 0 where
   pub first : a *ℤ R .first +ℤ b *ℤ S .first ≡ c
