@@ -21,12 +21,13 @@ use Rattle.jobs.specs.Solution.{number, IsSolution, objective, Optimal, 
 use Rattle.jobs.specs.Component.{lowest, leads, groupRows, sheetLength}
 use Rattle.jobs.specs.Family.{componentJob}
 use Rattle.jobs.specs.Table.{ShortFor, IsFirst}
+use Rattle.jobs.specs.Lawful.{LawfulJob}
 use Rattle.jobs.specs.Faults.{firstBroken}
 use Rattle.jobs.specs.Verdict.{Verdict, planned, noFit, refused, firstWithout, outcome, short?, verdict}
 use Rattle.jobs.specs.Sheet.{laidOut, sheet}
 use Rattle.jobs.specs.Demands.{worthOn, numberOn, numbersOn, TurnsAway, LaidOut, NoneFits, CannotBeBettered, FamiliesOn, NotTurnedAway, GivesFits}
 use Rattle.jobs.proofs.Faults.{first-by, reported-iff, sound-iff}
-use Rattle.jobs.proofs.Lawful.{LawfulJob, lawful-named, lawful, lawful-job}
+use Rattle.jobs.proofs.Lawful.{lawful-named, lawful}
 use Rattle.jobs.proofs.Writing.{within-holds}
 use Rattle.jobs.proofs.Fields.{number-back, worth-back, laidOut-back, if-planned, if-noFit, if-refused, length-sheet, drop-sheet}
 use Rattle.jobs.proofs.Solutions.{best-is}
@@ -158,7 +159,7 @@ module _ (s area : List ℕ) where
 
   -- ---- the third demand
   pub lawful-of : fault ≡ none → LawfulJob (jobOf s)
-  lawful-of e = lawful-job s (lawful (short? (jobOf s) area) s e)
+  lawful-of e = lawful (short? (jobOf s) area) s e .job
 
   module _ (w : ℤ) (e : verdict s area ≡ planned w) where
     optimal-of : Optimal (jobOf s) (best (jobOf s))

@@ -16,7 +16,7 @@ use Rattle.runs.specs.Workings.{inLimits}
 use Rattle.runs.proofs.Refusals.{in-limits-iff}
 use Rattle.jobs.specs.Bytes.{unsigned, u32}
 use Rattle.jobs.specs.Decide.{tested, below?, atMost?, equal?, within?, by, both, either, not?, list?, firstOf}
-use Rattle.jobs.specs.Job.{Variable, Equation, form, variableCount, equationCount, equationRow, variableAt, equationAt}
+use Rattle.jobs.specs.Job.{Variable, Equation, jobOf, form, variableCount, equationCount, equationRow, variable, equation}
 use Rattle.jobs.specs.Table.{mark, Header, InRange, Coefficients, Misnamed, Broken, NoArea, Reported}
 
 -- ---- each condition of the table can be decided
@@ -45,9 +45,9 @@ broken? d s ShortJob = below? (length s) 24
 broken? d s WrongMark = not? (list? (take 4 s) mark)
 broken? d s TooMany = either (below? 256 (variableCount s)) (below? 1024 (equationCount s))
 broken? d s WrongHeader = not? (header? s)
-broken? d s (VariableRange i) = both (below? i (variableCount s)) (not? (inRange? (variableAt s i)))
-broken? d s (EquationVariables k) = both (below? k (equationCount s)) (misnamed? (variableCount s) (equationAt s k))
-broken? d s (EquationRange k) = both (below? k (equationCount s)) (not? (coefficients? (equationAt s k)))
+broken? d s (VariableRange i) = both (below? i (variableCount s)) (not? (inRange? (variable (jobOf s) i)))
+broken? d s (EquationVariables k) = both (below? k (equationCount s)) (misnamed? (variableCount s) (equation (jobOf s) k))
+broken? d s (EquationRange k) = both (below? k (equationCount s)) (not? (coefficients? (equation (jobOf s) k)))
 broken? d s ShortArea = d
 broken? d s WrongArgument = no (λ h. h)
 
@@ -68,7 +68,7 @@ checks s = headerChecks ++ (rowChecks s ++ ShortArea ∷ [])
 
 -- the first of them that is broken (proofs/Faults.antt: exactly the one that is broken and none before it)
 unfoldable pub firstBroken : {short : Type 0} → Dec short → List ℕ → Option Reason
-unfolding firstOf checks
+unfolding firstOf checks jobOf
 firstBroken d s = firstOf (broken? d s) (checks s)
 
 -- ---- what the job check answers: "The job check reports as the planner does through reason 7, and otherwise accepts."

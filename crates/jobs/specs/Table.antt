@@ -14,7 +14,7 @@ use Rattle.runs.specs.Run.{bound}
 use Rattle.runs.specs.Workings.{InLimits}
 use Rattle.jobs.specs.Bytes.{u32}
 use Rattle.jobs.specs.Component.{Numbered, groupRows}
-use Rattle.jobs.specs.Job.{Variable, Equation, Job, form, variableCount, equationCount, equationRow, variableAt, equationAt}
+use Rattle.jobs.specs.Job.{Variable, Equation, Job, jobOf, form, variableCount, equationCount, equationRow, variable, equation}
 
 -- ---- the conditions, line by line
 
@@ -50,9 +50,9 @@ Broken short s ShortJob = length s < 24
 Broken short s WrongMark = take 4 s ≢ mark
 Broken short s TooMany = (256 < variableCount s) ⊎ (1024 < equationCount s)
 Broken short s WrongHeader = ¬ Header s
-Broken short s (VariableRange i) = (i < variableCount s) × (¬ InRange (variableAt s i))
-Broken short s (EquationVariables k) = (k < equationCount s) × Misnamed (variableCount s) (equationAt s k)
-Broken short s (EquationRange k) = (k < equationCount s) × (¬ Coefficients (equationAt s k))
+Broken short s (VariableRange i) = (i < variableCount s) × (¬ InRange (variable (jobOf s) i))
+Broken short s (EquationVariables k) = (k < equationCount s) × Misnamed (variableCount s) (equation (jobOf s) k)
+Broken short s (EquationRange k) = (k < equationCount s) × (¬ Coefficients (equation (jobOf s) k))
 Broken short s ShortArea = short
 Broken short s WrongArgument = ⊥
 
