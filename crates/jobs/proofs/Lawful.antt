@@ -11,10 +11,10 @@ use Rattle.reasons.specs.declared.Reason.the-variants.{TooMany, WrongHeader, Va
 use Rattle.lists.specs.Members.{_∈_, here, there}
 use Rattle.lists.proofs.Members.{each-iff}
 use Rattle.jobs.specs.Job.{Equation, Job, jobOf, RowsInside, variableCount, equationCount, noEquation, variable, equation}
-use Rattle.jobs.specs.Table.{Misnamed, Broken}
+use Rattle.jobs.specs.Table.{Misnamed, Broken, headerChecks}
 use Rattle.jobs.specs.Lawful.{LawfulEquation, LawfulJob, Lawful}
 use Rattle.jobs.specs.Decide.{firstOf}
-use Rattle.jobs.specs.Faults.{header?, inRange?, coefficients?, broken?, headerChecks, firstBroken}
+use Rattle.jobs.specs.Faults.{header?, inRange?, coefficients?, broken?, firstBroken}
 use Rattle.jobs.proofs.JobOf.{variables-of, equations-of}
 use Rattle.jobs.proofs.Firsts.{none-holds, holds-none}
 use Rattle.jobs.proofs.Faults.{sound-iff}
