@@ -15,7 +15,7 @@ use Rattle.ints.proofs.{ℤ, pos, _+ℤ_, _*ℤ_, _<ℤ_, arith}
 use Rattle.lists.specs.Members.{_∈_}
 use Rattle.lists.proofs.Table.{table-at}
 use Rattle.runs.specs.Run.{bound}
-use Rattle.runs.proofs.Turns.{FamilyRun}
+use Rattle.families.specs.FamilyRun.{FamilyRun}
 use Rattle.jobs.specs.Bytes.{u16}
 use Rattle.jobs.specs.Job.{Job, jobOf}
 use Rattle.jobs.specs.Solution.{number, IsSolution, objective, best}

@@ -26,7 +26,7 @@ use Rattle.jobs.specs.Family.{componentJob, fits}
 use Rattle.jobs.specs.Decide.{equal?}
 use Rattle.jobs.specs.Verdict.{firstWithout}
 use Rattle.jobs.specs.Demands.{SolvesGroup}
-use Rattle.jobs.proofs.Firsts.{first-iff, none-holds}
+use Rattle.jobs.proofs.Firsts.{first-rising, none-holds}
 use Rattle.jobs.proofs.Solutions.{in-solutions, none-iff, best-is}
 use Rattle.jobs.proofs.Components.{chain-edge, joined-iff, rising-leads, lead-in}
 
@@ -220,4 +220,4 @@ all-fit j e l m = fits-some (componentJob j l) (none-without j e l m)
 pub without-iff : (j : Job) (l : ℕ) → (firstWithout j ≡ some l) ↔
     ((l ∈ leads j) × ((fits (componentJob j l) ≡ 0) × ((i : ℕ) → i ∈ leads j → i < l → fits (componentJob j i) ≢ 0)))
 unfolding firstWithout
-without-iff j l = first-iff (λ l. equal? (fits (componentJob j l)) 0) (λ a b h k. omega (arith, h, k)) (rising-leads j) l
+without-iff j l = first-rising (λ l. equal? (fits (componentJob j l)) 0) (λ a b h k. omega (arith, h, k)) (rising-leads j) l

@@ -1,10 +1,13 @@
 -- The first member of a list of which P holds.
 use mathlib.Core.Path.{_≡_, refl, sym, _∙_, ap, subst}
-use mathlib.Core.Logic.{_↔_, if-pos, if-neg}
+use mathlib.Core.Logic.{_↔_, _⊎_, inl, inr, ⊎-elim, if-pos, if-neg}
 use mathlib.Core.Option.{Option, none, some, Option·none-ne-some, Option·some-injective}
-use mathlib.Core.List.{List, [], _∷_, _++_}
+use mathlib.Core.List.{List, [], _∷_, _++_, List·Memᴰ·not-nil}
 use Rattle.lists.specs.Members.{_∈_, here, there}
-use Rattle.lists.specs.Rising.{Rising, none as nothing, more}
+use Rattle.lists.specs.Rising.{Rising}
+use Rattle.lists.proofs.Members.{in-append}
+use Rattle.lists.proofs.Rising.{rising-behind}
+use Rattle.jobs.specs.Table.{First}
 use Rattle.jobs.specs.Decide.{firstOf}
 
 module _ {A : Type 0} {P : A → Type 0} (d : (x : A) → Dec (P x)) where
@@ -58,35 +61,49 @@ module _ {A : Type 0} {P : A → Type 0} (d : (x : A) → Dec (P x)) where
       go none e = first-past xs (y ∷ []) e ∙ first-later y [] h ∙ first-none ∙ sym e
       go (some z) e = first-stays xs (y ∷ []) e ∙ sym e
 
-  -- in a rising list: the member of which P holds and of none before it
-  module _ {R : A → A → Type 0} (asym : (x y : A) → R x y → R y x → ⊥) where
-    -- what it is to be that member
-    abbrev pub First : List A → A → Type 0
-    First xs x = (x ∈ xs) × (P x × ((y : A) → y ∈ xs → R y x → ¬ P y))
+  -- what is found stands behind members of which P does not hold
+  pub first-iff : (xs : List A) (x : A) → (firstOf d xs ≡ some x) ↔ First P xs x
+  first-iff xs x = (out xs, λ f. rw (f .listed) (first-past (f .earlier) (x ∷ f .later) (holds-none (f .earlier) (f .none-before)) ∙ first-here x (f .later) (f .holds)))
+    where
+      out : (xs : List A) → firstOf d xs ≡ some x → First P xs x
+      out [] e = absurd (Option·none-ne-some x (sym first-none ∙ e))
+      out (z ∷ zs) e = go (d z) (out zs)
+        where
+          more : ¬ P z → (f : First P zs x) (y : A) → y ∈ z ∷ f .earlier → ¬ P y
+          more h f y (here q) p = h (subst P q p)
+          more h f y (there m) p = f .none-before y m p
 
-    -- nothing stands before the head
-    before-head : {z x y : A} {xs : List A} → ((y : A) → y ∈ xs → R z y) → z ≡ x → y ∈ z ∷ xs → R y x → ⊥
-    before-head {z} {x} {y} g q (here e) r = let s : R x x = subst (λ t. R t x) (e ∙ q) r in asym x x s s
-    before-head {z} {x} {y} g q (there m) r = asym x y (subst (λ t. R t y) q (g y m)) r
+          go : Dec (P z) → (firstOf d zs ≡ some x → First P zs x) → First P (z ∷ zs) x
+          go (yes h) f =
+              let q = Option·some-injective z x (sym (first-here z zs h) ∙ e) in
+              record { earlier = []; later = zs; listed = ap (λ y. y ∷ zs) q; none-before = λ y m. absurd (List·Memᴰ·not-nil m); holds = subst P q h }
+          go (no h) f =
+              let k = f (sym (first-later z zs h) ∙ e) in
+              record { earlier = z ∷ k .earlier; later = k .later; listed = ap (λ l. z ∷ l) (k .listed); none-before = more h k; holds = k .holds }
 
-    one-more : {z x y : A} {xs : List A} → ¬ P z → (y ∈ xs → R y x → ¬ P y) → y ∈ z ∷ xs → R y x → ¬ P y
-    one-more n f (here e) r p = n (subst P e p)
-    one-more n f (there m) r p = f m r p
-
-    first-out : {xs : List A} → Rising R xs → {x : A} → firstOf d xs ≡ some x → First xs x
-    first-out nothing {x} e = absurd (Option·none-ne-some x (sym first-none ∙ e))
-    first-out (more {x = z} {xs} g r) {x} e = go (d z) (first-out r)
+  -- in a rising list it is the member of which P holds, and of none that R puts before it
+  module _ {R : A → A → Type 0} (asym : (x y : A) → R x y → R y x → ⊥) {xs : List A} (rising : Rising R xs) where
+    -- where a member stands
+    placed : {x : A} → First P xs x → {y : A} → y ∈ xs → P y → (y ≡ x) ⊎ R x y
+    placed {x} f {y} m p = go (in-append (f .earlier) (x ∷ f .later) y .0 (subst (λ l. y ∈ l) (f .listed) m))
       where
-        go : Dec (P z) → (firstOf d xs ≡ some x → First xs x) → First (z ∷ xs) x
-        go (yes h) f = let q = Option·some-injective z x (sym (first-here z xs h) ∙ e) in (here (sym q), (subst P q h, λ y m k _. before-head g q m k))
-        go (no h) f = let (m, k) = f (sym (first-later z xs h) ∙ e) in (there m, (k .0, λ y l. one-more h (k .1 y) l))
+        go : (y ∈ f .earlier) ⊎ (y ∈ x ∷ f .later) → (y ≡ x) ⊎ R x y
+        go (inl k) = absurd (f .none-before y k p)
+        go (inr (here e)) = inl e
+        go (inr (there k)) = inr (rising-behind (f .earlier) (subst (Rising R) (f .listed) rising) y k)
 
-    first-into : {xs : List A} → Rising R xs → {x : A} → x ∈ xs → P x → ((y : A) → y ∈ xs → R y x → ¬ P y) → firstOf d xs ≡ some x
-    first-into (more {x = z} {xs} g r) {x} (here e) p b = first-here z xs (subst P e p) ∙ ap some (sym e)
-    first-into (more {x = z} {xs} g r) {x} (there m) p b = first-later z xs (b z (here refl) (g x m)) ∙ first-into r m p (λ y k. b y (there k))
+    pub first-rising : (x : A) → (firstOf d xs ≡ some x) ↔ ((x ∈ xs) × (P x × ((y : A) → y ∈ xs → R y x → ¬ P y)))
+    first-rising x = (λ e. let f = first-iff xs x .0 e in (inside f, (f .holds, λ y m r p. ⊎-elim (λ q. same q r) (λ l. asym x y l r) (placed f m p))), λ (m, (p, b)). into m p b (firstOf d xs) refl)
+      where
+        inside : {x : A} → First P xs x → x ∈ xs
+        inside {x} f = rw (f .listed) (in-append (f .earlier) (x ∷ f .later) x .1 (inr (here refl)))
 
-    pub first-iff : {xs : List A} → Rising R xs → (x : A) → (firstOf d xs ≡ some x) ↔ First xs x
-    first-iff r x = (first-out r, λ f. first-into r (f .0) (f .1 .0) (f .1 .1))
+        same : {y : A} → y ≡ x → R y x → ⊥
+        same q r = let s : R x x = rw q at r in asym x x s s
+
+        into : x ∈ xs → P x → ((y : A) → y ∈ xs → R y x → ¬ P y) → (o : Option A) → firstOf d xs ≡ o → o ≡ some x
+        into m p b none e = absurd (none-holds xs e x m p)
+        into m p b (some y) e = let f = first-iff xs y .0 e in ⊎-elim (λ q. ap some (sym q)) (λ l. absurd (b y (inside f) l (f .holds))) (placed f m p)
 
 -- statements that agree on the members have the same first
 pub first-same : {A : Type 0} {P Q : A → Type 0} (d : (x : A) → Dec (P x)) (e : (x : A) → Dec (Q x)) (xs : List A) → ((x : A) → x ∈ xs → P x ↔ Q x) → firstOf d xs ≡ firstOf e xs

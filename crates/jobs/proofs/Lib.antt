@@ -3,6 +3,8 @@
 
 -- numbers in bytes, as the code reads them
 pub mod Reading
+-- the rows of the job that bytes say
+pub mod JobOf
 -- what a branch on a test says
 pub mod Branches
 -- the first member of a list of which a statement holds

@@ -14,9 +14,9 @@ use Rattle.reasons.specs.Numbers.{numberOf, rowOf}
 use Rattle.jobs.specs.Bytes.{unsigned}
 use Rattle.jobs.specs.Job.{jobOf, variableCount, equationCount}
 use Rattle.jobs.specs.Solution.{objective, best}
-use Rattle.jobs.specs.Table.{mark, Header}
+use Rattle.jobs.specs.Table.{mark, Header, headerChecks, rowChecks, checks}
 use Rattle.jobs.specs.Decide.{atMost?, below?, either, list?, firstOf}
-use Rattle.jobs.specs.Faults.{broken?, headerChecks, rowChecks, checks, firstBroken}
+use Rattle.jobs.specs.Faults.{broken?, firstBroken}
 use Rattle.jobs.specs.Verdict.{refused, firstWithout, outcome, short?, verdict}
 use Rattle.jobs.specs.Sheet.{sheet}
 use Rattle.jobs.proofs.Firsts.{first-here, first-later, first-stays}

@@ -10,8 +10,9 @@ use Rattle.reasons.specs.declared.Reason.the-variants.{ShortJob, WrongMark, Too
 use Rattle.jobs.specs.Job.{Job, jobOf}
 use Rattle.jobs.specs.Solution.{objective, best}
 use Rattle.jobs.specs.Component.{sheetLength}
-use Rattle.jobs.specs.Faults.{broken?, rowChecks, checks, noArea?, accepted, refused as turned, answered, checked}
 use Rattle.jobs.specs.Findings.{findings}
+use Rattle.jobs.specs.Table.{rowChecks, checks}
+use Rattle.jobs.specs.Faults.{broken?, noArea?, accepted, refused as turned, answered, checked}
 use Rattle.jobs.specs.Verdict.{planned, noFit, refused, firstWithout, outcome, short?, verdict}
 use Rattle.jobs.specs.Sheet.{laidOut, sheet}
 use Rattle.jobs.proofs.Firsts.{first-here}

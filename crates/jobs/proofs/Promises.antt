@@ -22,12 +22,13 @@ use Rattle.jobs.specs.Component.{lowest, leads, groupRows, sheetLength}
 use Rattle.jobs.specs.Family.{componentJob}
 use Rattle.jobs.specs.Findings.{findings}
 use Rattle.jobs.specs.Table.{ShortFor, IsFirst}
+use Rattle.jobs.specs.Lawful.{LawfulJob}
 use Rattle.jobs.specs.Faults.{firstBroken}
 use Rattle.jobs.specs.Verdict.{Verdict, planned, noFit, refused, firstWithout, outcome, short?, verdict}
 use Rattle.jobs.specs.Sheet.{laidOut, sheet}
 use Rattle.jobs.specs.Demands.{worthOn, numberOn, numbersOn, TurnsAway, LaidOut, NoneFits, CannotBeBettered, FamiliesOn, NotTurnedAway, GivesFits}
 use Rattle.jobs.proofs.Faults.{first-by, reported-iff, sound-iff}
-use Rattle.jobs.proofs.Lawful.{LawfulJob, lawful-named, lawful, lawful-job}
+use Rattle.jobs.proofs.Lawful.{lawful-named, lawful}
 use Rattle.jobs.proofs.Writing.{within-holds}
 use Rattle.jobs.proofs.Fields.{number-back, worth-back, laidOut-back, if-planned, if-noFit, if-refused, length-sheet, drop-sheet}
 use Rattle.jobs.proofs.Solutions.{best-is}
@@ -36,37 +37,21 @@ use Rattle.jobs.proofs.Numbering.{lead-iff, groups-are, short-iff}
 use Rattle.jobs.proofs.Assembly.{solves-iff, some-iff, fits-iff, fits-some, all-fit, without-iff}
 
 -- ---- what is behind each verdict
--- a case of a verdict is no other case, and says what it says
-abbrev IsPlanned : Verdict → ℤ → Type 0
-IsPlanned (planned w) z = w ≡ z
-IsPlanned (noFit l) z = ⊥
-IsPlanned (refused reason row) z = ⊥
-
-abbrev IsNoFit : Verdict → ℕ → Type 0
-IsNoFit (planned w) k = ⊥
-IsNoFit (noFit l) k = l ≡ k
-IsNoFit (refused reason row) k = ⊥
-
-abbrev IsRefused : Verdict → ℕ → ℕ → Type 0
-IsRefused (planned w) p q = ⊥
-IsRefused (noFit l) p q = ⊥
-IsRefused (refused reason row) p q = (reason ≡ p) × (row ≡ q)
-
 module _ (z : ℤ) where
-  was-planned : (o : Option Reason) (k : Option ℕ) (w : ℤ) → IsPlanned (outcome o k z) w → (o ≡ none) × ((k ≡ none) × (z ≡ w))
-  was-planned none none w e = (refl, (refl, e))
-  was-planned none (some l) w e = absurd e
-  was-planned (some r) k w e = absurd e
+  was-planned : (o : Option Reason) (k : Option ℕ) (w : ℤ) → outcome o k z ≡ planned w → (o ≡ none) × ((k ≡ none) × (z ≡ w))
+  was-planned none none w e = (refl, (refl, cc))
+  was-planned none (some l) w e = (refl, (cc, cc))
+  was-planned (some r) k w e = (cc, (cc, cc))
 
-  was-noFit : (o : Option Reason) (k : Option ℕ) (l : ℕ) → IsNoFit (outcome o k z) l → (o ≡ none) × (k ≡ some l)
-  was-noFit none none l e = absurd e
-  was-noFit none (some i) l e = (refl, ap some e)
-  was-noFit (some r) k l e = absurd e
+  was-noFit : (o : Option Reason) (k : Option ℕ) (l : ℕ) → outcome o k z ≡ noFit l → (o ≡ none) × (k ≡ some l)
+  was-noFit none none l e = (refl, cc)
+  was-noFit none (some i) l e = (refl, cc)
+  was-noFit (some r) k l e = (cc, cc)
 
-  was-refused : (o : Option Reason) (k : Option ℕ) (p q : ℕ) → IsRefused (outcome o k z) p q → (r : Reason) × ((o ≡ some r) × ((numberOf r ≡ p) × (rowOf r ≡ q)))
-  was-refused none none p q e = absurd e
-  was-refused none (some l) p q e = absurd e
-  was-refused (some r) k p q e = (r, (refl, e))
+  was-refused : (o : Option Reason) (k : Option ℕ) (p q : ℕ) → outcome o k z ≡ refused p q → (r : Reason) × ((o ≡ some r) × ((numberOf r ≡ p) × (rowOf r ≡ q)))
+  was-refused none none p q e = let c : _≡_ {A = ℕ} 0 1 = cc in absurd (omega arith)
+  was-refused none (some l) p q e = let c : _≡_ {A = ℕ} 0 1 = cc in absurd (omega arith)
+  was-refused (some r) k p q e = (r, (refl, (cc, cc)))
 
 -- ---- a job that no check turns away
 module _ (j : Job) (f : LawfulJob j) where
@@ -131,13 +116,13 @@ module _ (s area : List ℕ) where
   verdict-is = refl
 
   pub planned-when : (w : ℤ) → verdict s area ≡ planned w → (fault ≡ none) × ((firstWithout (jobOf s) ≡ none) × (objective (jobOf s) (best (jobOf s)) ≡ w))
-  planned-when w e = was-planned (objective (jobOf s) (best (jobOf s))) fault (firstWithout (jobOf s)) w (subst (λ v. IsPlanned v w) (sym e ∙ verdict-is) refl)
+  planned-when w e = was-planned (objective (jobOf s) (best (jobOf s))) fault (firstWithout (jobOf s)) w (sym verdict-is ∙ e)
 
   noFit-when : (l : ℕ) → verdict s area ≡ noFit l → (fault ≡ none) × (firstWithout (jobOf s) ≡ some l)
-  noFit-when l e = was-noFit (objective (jobOf s) (best (jobOf s))) fault (firstWithout (jobOf s)) l (subst (λ v. IsNoFit v l) (sym e ∙ verdict-is) refl)
+  noFit-when l e = was-noFit (objective (jobOf s) (best (jobOf s))) fault (firstWithout (jobOf s)) l (sym verdict-is ∙ e)
 
   refused-when : (p q : ℕ) → verdict s area ≡ refused p q → (r : Reason) × ((fault ≡ some r) × ((numberOf r ≡ p) × (rowOf r ≡ q)))
-  refused-when p q e = was-refused (objective (jobOf s) (best (jobOf s))) fault (firstWithout (jobOf s)) p q (subst (λ v. IsRefused v p q) (sym e ∙ verdict-is) (refl, refl))
+  refused-when p q e = was-refused (objective (jobOf s) (best (jobOf s))) fault (firstWithout (jobOf s)) p q (sym verdict-is ∙ e)
 
   -- what is reported is what is found first
   pub reported : (r : Reason) → IsFirst (ShortFor (jobOf s) area) s r → fault ≡ some r
@@ -166,7 +151,7 @@ module _ (s area : List ℕ) where
 
   -- ---- the third demand
   pub lawful-of : fault ≡ none → LawfulJob (jobOf s)
-  lawful-of e = lawful-job s (lawful (short? (jobOf s) area) s e)
+  lawful-of e = lawful (short? (jobOf s) area) s e .job
 
   module _ (w : ℤ) (e : verdict s area ≡ planned w) where
     optimal-of : Optimal (jobOf s) (best (jobOf s))

@@ -1,8 +1,9 @@
 -- Document 01, "The job": what the bytes of a job say. Every list of bytes says something; whether it is a job that may be
 -- planned is a matter of the table (Table.antt).
+use mathlib.Core.Path.{_≡_}
 use mathlib.Core.List.{List}
-use Prim.Native.Nat.{ℕ, _+_, _*_}
-use lib.ListN.{getD}
+use Prim.Native.Nat.{ℕ, _+_, _*_, _≤_}
+use lib.ListN.{length, getD}
 use lib.IntN.{pos}
 use Rattle.lists.specs.Table.{table}
 use Rattle.runs.specs.declared.Equation.{Equation as Form}
@@ -29,6 +30,12 @@ variableRow i = 24 + 12 * i
 
 abbrev pub equationRow : ℕ → ℕ → ℕ
 equationRow n k = 24 + 12 * n + 20 * k
+
+-- the numbers of rows within their limits, and the bytes just as many as the rows take: then every row can be read
+pub record RowsInside (s : List ℕ) : Type 0 where
+  pub variables : variableCount s ≤ 256
+  pub equations : equationCount s ≤ 1024
+  pub whole : length s ≡ equationRow (variableCount s) (equationCount s)
 
 -- "Count row, 12 bytes: low i32, high i32, weight i32."
 abbrev pub variableAt : List ℕ → ℕ → Variable

@@ -1,5 +1,5 @@
 -- What a job is, when it is turned away, what a plan of it is, and what is demanded of one. Read in this order. To be believed is
--- all of it but the decisions in Decide and Faults, Method, and Vectors, which is theorems.
+-- all of it but the decisions in Decide and Faults, Lawful, Method, and Vectors, which is theorems.
 
 -- numbers in bytes
 pub mod Bytes
@@ -25,6 +25,8 @@ pub mod Verdict
 pub mod Sheet
 -- the three demands
 pub mod Demands
+-- a job that the table does not turn away, as inner functions ask for it
+pub mod Lawful
 -- what inner functions promise each other
 pub mod Method
 -- small jobs through all of them

@@ -1,20 +1,20 @@
 -- Document 01, the table of reasons: when a job is turned away, and with which reason and row.
 use mathlib.Core.Path.{_≡_}
 use mathlib.Core.Logic.{_⊎_, _≢_}
-use mathlib.Core.List.{List, [], _∷_}
+use mathlib.Core.List.{List, [], _∷_, _++_, flatMap}
 use Prim.Native.Nat.{ℕ, _+_, _*_, _≤_, _<_}
 use lib.ListN.{length, take}
-use lib.IntN.{pos}
 use Rattle.reasons.specs.declared.Reason.{Reason}
 use Rattle.reasons.specs.declared.Reason.the-variants.{ShortJob, WrongMark, TooMany, WrongHeader, VariableRange, EquationVariables, EquationRange, ShortArea, WrongArgument}
 use Rattle.reasons.specs.Numbers.{numberOf, rowOf}
 use Rattle.ints.specs.Within.{Within}
-use Rattle.lists.specs.Lexicographic.{Lower}
+use Rattle.lists.specs.Members.{_∈_}
+use Rattle.lists.specs.Table.{table, upTo}
 use Rattle.runs.specs.Run.{bound}
 use Rattle.runs.specs.Workings.{InLimits}
-use Rattle.jobs.specs.Bytes.{u32}
+use Rattle.jobs.specs.Bytes.{unsigned, u32}
 use Rattle.jobs.specs.Component.{Numbered, groupRows}
-use Rattle.jobs.specs.Job.{Variable, Equation, Job, form, variableCount, equationCount, equationRow, variableAt, equationAt}
+use Rattle.jobs.specs.Job.{Variable, Equation, Job, jobOf, form, variableCount, equationCount, equationRow, variable, equation}
 
 -- ---- the conditions, line by line
 
@@ -50,9 +50,9 @@ Broken short s ShortJob = length s < 24
 Broken short s WrongMark = take 4 s ≢ mark
 Broken short s TooMany = (256 < variableCount s) ⊎ (1024 < equationCount s)
 Broken short s WrongHeader = ¬ Header s
-Broken short s (VariableRange i) = (i < variableCount s) × (¬ InRange (variableAt s i))
-Broken short s (EquationVariables k) = (k < equationCount s) × Misnamed (variableCount s) (equationAt s k)
-Broken short s (EquationRange k) = (k < equationCount s) × (¬ Coefficients (equationAt s k))
+Broken short s (VariableRange i) = (i < variableCount s) × (¬ InRange (variable (jobOf s) i))
+Broken short s (EquationVariables k) = (k < equationCount s) × Misnamed (variableCount s) (equation (jobOf s) k)
+Broken short s (EquationRange k) = (k < equationCount s) × (¬ Coefficients (equation (jobOf s) k))
 Broken short s ShortArea = short
 Broken short s WrongArgument = ⊥
 
@@ -64,25 +64,33 @@ ShortFor j area = (g : ℕ) × ((group : ℕ → ℕ) × (Numbered j g group × 
 abbrev pub NoArea : Type 0
 NoArea = ⊥
 
--- ---- the order: from the top of the table; where a place has rows, the lowest; in one row 6 before 7
-abbrev pub placeOf : Reason → ℕ
-placeOf ShortJob = 1
-placeOf WrongMark = 2
-placeOf TooMany = 3
-placeOf WrongHeader = 4
-placeOf (VariableRange i) = 5
-placeOf (EquationVariables k) = 6
-placeOf (EquationRange k) = 6
-placeOf ShortArea = 7
-placeOf WrongArgument = 8
+-- ---- the order of the table is that of this list: "all count rows come before equation rows, and in one row 6 comes before 7.
+-- Equation rows are taken in turn"
+abbrev pub headerChecks : List Reason
+headerChecks = ShortJob ∷ WrongMark ∷ TooMany ∷ WrongHeader ∷ []
 
-abbrev pub Before : Reason → Reason → Type 0
-Before r t = Lower (pos (placeOf r) ∷ pos (rowOf r) ∷ pos (numberOf r) ∷ []) (pos (placeOf t) ∷ pos (rowOf t) ∷ pos (numberOf t) ∷ [])
+abbrev pub equationChecks : ℕ → List Reason
+equationChecks k = EquationVariables k ∷ EquationRange k ∷ []
 
--- "The row reported is the lowest one that breaks a rule": r is broken, and nothing before it
-pub record IsFirst (short : Type 0) (s : List ℕ) (r : Reason) : Type 0 where
-  pub broken : Broken short s r
-  pub none-before : (t : Reason) → Before t r → ¬ Broken short s t
+unfoldable pub rowChecks : List ℕ → List Reason
+unfolding table flatMap unsigned
+rowChecks s = table VariableRange (variableCount s) ++ flatMap equationChecks (upTo (equationCount s))
+
+unfoldable pub checks : List ℕ → List Reason
+unfolding rowChecks
+checks s = headerChecks ++ (rowChecks s ++ ShortArea ∷ [])
+
+-- P holds of x, which stands in a list behind others of which P does not hold
+pub record First {A : Type 0} (P : A → Type 0) (xs : List A) (x : A) : Type 0 where
+  pub earlier : List A
+  pub later : List A
+  pub listed : xs ≡ earlier ++ x ∷ later
+  pub none-before : (y : A) → y ∈ earlier → ¬ P y
+  pub holds : P x
+
+-- "The row reported is the lowest one that breaks a rule": r is broken, and no check before it
+abbrev pub IsFirst : Type 0 → List ℕ → Reason → Type 0
+IsFirst short s = First (Broken short s) (checks s)
 
 -- reported with this number and row
 abbrev pub Reported : Type 0 → List ℕ → ℕ → ℕ → Type 0
