@@ -13,7 +13,7 @@ use Rattle.lists.proofs.Maps.{same-values}
 use Rattle.lists.proofs.Table.{length-table}
 use Rattle.runs.specs.declared.Run.{Run}
 use Rattle.jobs.specs.Job.{Job, jobOf}
-use Rattle.jobs.specs.Component.{sheetLength}
+use Rattle.jobs.specs.Layout.{sheetLength}
 use Rattle.jobs.specs.Faults.{Answer, accepted, checked}
 use Rattle.jobs.specs.Verdict.{Verdict, planned, noFit, refused, short?, verdict}
 use Rattle.jobs.specs.Sheet.{sheet}

@@ -30,7 +30,7 @@ use Rattle.jobs.specs.Family.{componentJob, fits, step, chosen, slope}
 use Rattle.jobs.specs.Verdict.{Verdict, planned, noFit, refused, firstWithout, outcome, verdict}
 use Rattle.jobs.specs.Sheet.{header, variableFields, componentFields, laidOut, sheet}
 use Rattle.jobs.proofs.Firsts.{first-same}
-use Rattle.jobs.proofs.Lawful.{LawfulJob}
+use Rattle.jobs.specs.Lawful.{LawfulJob}
 use Rattle.jobs.proofs.Components.{in-leads, lead-in}
 use Rattle.jobs.proofs.Assembly.{none-without}
 use Rattle.jobs.proofs.Fields.{length-laidOut, if-planned, if-noFit, if-refused}

@@ -18,12 +18,13 @@ use Rattle.runs.specs.Run.{bound}
 use Rattle.jobs.specs.Bytes.{u16}
 use Rattle.jobs.specs.Job.{Job, jobOf}
 use Rattle.jobs.specs.Solution.{number, IsSolution, objective, best}
-use Rattle.jobs.specs.Component.{lowest, leads, component, sheetLength}
+use Rattle.jobs.specs.Layout.{sheetLength}
+use Rattle.jobs.specs.Component.{lowest, leads, component}
 use Rattle.jobs.specs.Family.{componentJob, fits, base, step, chosen, slope}
 use Rattle.jobs.specs.Verdict.{planned, firstWithout, verdict}
 use Rattle.jobs.specs.Sheet.{laidOut, sheet}
 use Rattle.jobs.specs.Demands.{numberOn, baseOn, stepOn, groupOn, fitsOn, chosenOn, gainOn, partOn, memberOn, SolvesGroup, FamilyOn, FamiliesOn, GivesFits}
-use Rattle.jobs.proofs.Lawful.{LawfulJob}
+use Rattle.jobs.specs.Lawful.{LawfulJob}
 use Rattle.jobs.proofs.Components.{in-leads, lead-in, joined-iff, component-iff}
 use Rattle.jobs.proofs.Numbering.{lead-iff, group-is}
 use Rattle.jobs.proofs.Assembly.{none-without, component-length, outside-zero, solves-iff}

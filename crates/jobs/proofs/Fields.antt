@@ -13,7 +13,8 @@ use Rattle.lists.proofs.Table.{table-at, length-upTo}
 use Rattle.jobs.specs.Bytes.{unsigned, bytesOf, signedBytes}
 use Rattle.jobs.specs.Job.{Job, jobOf}
 use Rattle.jobs.specs.Solution.{number, best}
-use Rattle.jobs.specs.Component.{lowest, leads, componentCount, component, groupRows, sheetLength}
+use Rattle.jobs.specs.Layout.{groupRowsAt as groupRows, sheetLength}
+use Rattle.jobs.specs.Component.{lowest, leads, componentCount, component}
 use Rattle.jobs.specs.Family.{componentJob, fits, base, step, chosen, slope}
 use Rattle.jobs.specs.Verdict.{Verdict, planned, noFit, refused, verdict}
 use Rattle.jobs.specs.Sheet.{header, variableFields, componentFields, laidOut, areaAfter, sheet}

@@ -13,7 +13,8 @@ use Rattle.lists.specs.Table.{table}
 use Rattle.jobs.specs.Bytes.{u16, u32, i32, i64}
 use Rattle.jobs.specs.Job.{Job, jobOf, variable, equation}
 use Rattle.jobs.specs.Solution.{number, value, IsSolution, objective, Optimal}
-use Rattle.jobs.specs.Component.{Joined, IsLead, Numbered, groupRows}
+use Rattle.jobs.specs.Layout.{groupRowsAt as groupRows}
+use Rattle.jobs.specs.Component.{Joined, IsLead, Numbered}
 use Rattle.jobs.specs.Table.{ShortFor, Reported}
 use Rattle.jobs.specs.Verdict.{Verdict, planned, noFit, refused}
 use Rattle.jobs.specs.Sheet.{answerMark}

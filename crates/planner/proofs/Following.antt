@@ -12,17 +12,20 @@ use Rattle.runs.specs.Workings.{InLimits}
 use Rattle.runs.proofs.Turns.{FamilyRun}
 use Rattle.jobs.specs.declared.Equation.{Equation}
 use Rattle.jobs.specs.Job.{Job, jobOf, equationRow, equationFrom, form, variable, equation, noEquation}
-use Rattle.jobs.proofs.Lawful.{LawfulJob, lawful-job, variables-of, equations-of}
+use Rattle.jobs.specs.Lawful.{LawfulJob}
+use Rattle.jobs.proofs.JobOf.{variables-of, equations-of}
+use Rattle.jobs.proofs.Lawful.{lawful-job}
 use Rattle.jobs.specs.Component.{lowest}
 use Rattle.families.specs.Family.{familyRun}
 use Rattle.families.specs.Model.{Indices as Pair, interval, kept}
 use Rattle.planner.specs.declared.join.Indices.{Indices}
 use Rattle.planner.specs.Analysis.{Families}
-use Rattle.planner.specs.Bounds.{Bounds, withBounds, BoundedBy, Begins}
+use Rattle.jobs.specs.Bounds.{Bounds, withBounds, BoundedBy}
+use Rattle.planner.specs.Bounds.{Begins}
 use Rattle.planner.specs.Groups.{Labelled, Merges, Apart}
 use Rattle.planner.specs.Steps.{indicesBy, Reducible, Reduces}
 use Rattle.planner.proofs.Rows.{Sizes, n-most, row-is}
-use Rattle.planner.proofs.Rebounding.{same-length, same-equations, variable-with, lawful-with}
+use Rattle.jobs.proofs.WithBounds.{same-length, same-equations, variable-with, lawful-with}
 use Rattle.planner.proofs.Stepping as stepping
 
 -- what is known at equation k, whose row is e

@@ -6,7 +6,7 @@ pub mod Outcome
 pub mod Analysis
 -- what an array holds
 pub mod Arrays
--- the job with other bounds
+-- the bounds of a job, and what its variables begin with
 pub mod Bounds
 -- groups as a list of labels
 pub mod Groups

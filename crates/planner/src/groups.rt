@@ -8,7 +8,7 @@ ghost use lib.ListN.{length, getD};
 ghost use Rattle.lists.specs.Keep.{keep};
 ghost use Rattle.lists.specs.Table.{upTo};
 ghost use Rattle.jobs.specs.Job.{jobOf, variableCount, equationCount};
-ghost use Rattle.jobs.proofs.Lawful.{Lawful};
+ghost use Rattle.jobs.specs.Lawful.{Lawful};
 ghost use Rattle.planner.specs.Groups.{Apart, Labelled, Lowest, Merges, Labels};
 ghost use Rattle.planner.specs.Arrays.{Holds};
 ghost use Rattle.planner.specs.Choices.{groupIn};

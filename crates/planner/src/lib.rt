@@ -8,11 +8,12 @@ ghost use lib.ListN.{length};
 ghost use Rattle.jobs.specs.declared.Checked.the-variants.{Accepted, Refused};
 ghost use Rattle.jobs.specs.Faults.{answerOf, accepted, checked};
 ghost use Rattle.jobs.specs.Job.{jobOf, variableCount};
-ghost use Rattle.jobs.specs.Component.{componentCount, sheetLength};
+ghost use Rattle.jobs.specs.Layout.{sheetLength};
+ghost use Rattle.jobs.specs.Component.{componentCount};
 ghost use Rattle.jobs.specs.Verdict.{planned, verdict};
 ghost use Rattle.jobs.specs.Sheet.{sheet};
 ghost use Rattle.jobs.specs.Demands.{TurnsAway, GivesFits, CannotBeBettered};
-ghost use Rattle.jobs.proofs.Lawful.{Lawful};
+ghost use Rattle.jobs.specs.Lawful.{Lawful};
 ghost use Rattle.planner.specs.Analysis.{Families, Analysed};
 ghost use Rattle.planner.specs.Choices.{NoneEmpty};
 ghost use Rattle.planner.specs.Outcome.{verdictOf, worthOfBest, sheetOfBest};
@@ -108,12 +109,6 @@ fn written(job: &[u8], area: &mut [u8], state: State, n: usize, g: usize) -> Out
     let worth = choose::worth(job, groups, runs, gains, n);
     sheet::write(area, groups, runs, gains, n, g, worth);
     Outcome::Planned(worth)
-}
-
-/// A variable's bounds. They come to the planner apart from the job's bytes, so that the same job can be planned with others.
-pub struct Bounds {
-    pub low: i64,
-    pub high: i64,
 }
 
 /// What is known while the equations are taken in, for each variable by its number.
