@@ -19,7 +19,7 @@ use Rattle.jobs.specs.Job.{Job}
 use Rattle.jobs.specs.Solution.{number, IsSolution, solutions}
 use Rattle.jobs.specs.Component.{lowest, leads}
 use Rattle.jobs.specs.Family.{componentJob, fits, base, advance, step, familyRun}
-use Rattle.jobs.proofs.Lawful.{LawfulJob}
+use Rattle.jobs.specs.Lawful.{LawfulJob}
 use Rattle.jobs.proofs.Components.{in-leads, lowest-le, lowest-self}
 use Rattle.jobs.proofs.Assembly.{component-length, fits-iff}
 use Rattle.families.specs.Family.{member, IsFamily}

@@ -13,7 +13,7 @@ use Rattle.runs.specs.Run.{empty}
 use Rattle.jobs.specs.Job.{Job, form, equation}
 use Rattle.jobs.specs.Component.{merged, lowestBy}
 use Rattle.jobs.specs.Table.{Coefficients}
-use Rattle.jobs.proofs.Lawful.{LawfulJob}
+use Rattle.jobs.specs.Lawful.{LawfulJob}
 use Rattle.families.specs.Model.{State, groupAt, runAt, Indices, runAfter, kept, change, next, familiesBy}
 use Rattle.families.specs.Invariant.{Invariant}
 use Rattle.families.proofs.Kept.{Kept, kept-is}

@@ -11,7 +11,7 @@ use Rattle.lists.specs.Members.{_∈_}
 use Rattle.lists.proofs.Maps.{same-values}
 use Rattle.runs.specs.declared.Run.{Run}
 use Rattle.jobs.specs.Job.{Job, jobOf}
-use Rattle.jobs.specs.Component.{sheetLength}
+use Rattle.jobs.specs.Layout.{sheetLength}
 use Rattle.jobs.specs.Faults.{Answer, accepted, checked}
 use Rattle.jobs.specs.Findings.{Findings}
 use Rattle.jobs.specs.Verdict.{Verdict, planned, noFit, refused, outcome, short?, verdict}

@@ -30,7 +30,7 @@ use Rattle.jobs.specs.Verdict.{Verdict, planned, noFit, refused, firstWithout, 
 use Rattle.jobs.specs.Findings.{findings}
 use Rattle.jobs.specs.Sheet.{laidOut, areaAfter, sheet}
 use Rattle.jobs.proofs.Firsts.{first-same}
-use Rattle.jobs.proofs.Lawful.{LawfulJob}
+use Rattle.jobs.specs.Lawful.{LawfulJob}
 use Rattle.jobs.proofs.Components.{in-leads, lead-in}
 use Rattle.jobs.proofs.Assembly.{none-without}
 use Rattle.jobs.proofs.Fields.{Agree, same-layout, if-planned, if-noFit, if-refused}

@@ -10,7 +10,8 @@ use Rattle.jobs.specs.Job.{Job}
 use Rattle.jobs.specs.Solution.{number, Optimal, best}
 use Rattle.jobs.specs.Component.{lowest, leads}
 use Rattle.jobs.specs.Family.{componentJob, fits, base, step, chosen, slope}
-use Rattle.jobs.proofs.Lawful.{LawfulJob, lawful-named}
+use Rattle.jobs.specs.Lawful.{LawfulJob}
+use Rattle.jobs.proofs.Lawful.{lawful-named}
 use Rattle.jobs.proofs.Components.{lead-in}
 use Rattle.jobs.proofs.Assembly.{assembled, assembled-at, component-length}
 use Rattle.families.specs.Family.{choice}

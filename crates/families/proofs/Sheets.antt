@@ -25,7 +25,7 @@ use Rattle.jobs.specs.Verdict.{planned, firstWithout, verdict}
 use Rattle.jobs.specs.Findings.{findings}
 use Rattle.jobs.specs.Sheet.{laidOut, sheet}
 use Rattle.jobs.specs.Demands.{numberOn, baseOn, stepOn, groupOn, fitsOn, chosenOn, gainOn, partOn, memberOn, SolvesGroup, FamilyOn, FamiliesOn, GivesFits}
-use Rattle.jobs.proofs.Lawful.{LawfulJob}
+use Rattle.jobs.specs.Lawful.{LawfulJob}
 use Rattle.jobs.proofs.Components.{in-leads, lead-in, lowest-self, joined-iff, component-iff, component-below, component-lead}
 use Rattle.jobs.proofs.Numbering.{lead-iff, group-is}
 use Rattle.jobs.proofs.Assembly.{none-without, component-length, outside-zero, solves-iff}

@@ -16,7 +16,8 @@ use Rattle.lists.proofs.Places.{length-both, drop-past, length-flatMap}
 use Rattle.lists.proofs.Table.{in-upTo, table-at, length-upTo}
 use Rattle.jobs.specs.Bytes.{unsigned, i64, bytesOf, signedBytes}
 use Rattle.jobs.specs.Job.{Job, jobOf}
-use Rattle.jobs.specs.Component.{componentCount, component, sheetLength}
+use Rattle.jobs.specs.Layout.{sheetLength}
+use Rattle.jobs.specs.Component.{componentCount, component}
 use Rattle.jobs.specs.Findings.{Findings, findings}
 use Rattle.jobs.specs.Verdict.{Verdict, planned, noFit, refused, verdict}
 use Rattle.jobs.specs.Sheet.{sheetHeader, sheetVariable, sheetGroup, laidOut, areaAfter, sheet}

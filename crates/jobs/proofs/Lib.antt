@@ -15,6 +15,8 @@ pub mod Walks
 pub mod Faults
 -- what is known of a job that no check turns away
 pub mod Lawful
+-- a job with other bounds
+pub mod WithBounds
 -- the solutions of a job, in order, and the best of them
 pub mod Solutions
 -- groups: what joins variables, and how groups are numbered

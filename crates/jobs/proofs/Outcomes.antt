@@ -9,7 +9,7 @@ use Rattle.reasons.specs.declared.Reason.{Reason}
 use Rattle.reasons.specs.declared.Reason.the-variants.{ShortJob, WrongMark, TooMany, WrongHeader, ShortArea}
 use Rattle.jobs.specs.Job.{Job, jobOf}
 use Rattle.jobs.specs.Solution.{objective, best}
-use Rattle.jobs.specs.Component.{sheetLength}
+use Rattle.jobs.specs.Layout.{sheetLength}
 use Rattle.jobs.specs.Findings.{findings}
 use Rattle.jobs.specs.Table.{rowChecks, checks}
 use Rattle.jobs.specs.Faults.{broken?, noArea?, accepted, refused as turned, answered, checked}

@@ -18,7 +18,8 @@ use Rattle.lists.proofs.Sums.{sum-within}
 use Rattle.runs.specs.Run.{bound}
 use Rattle.jobs.specs.Job.{Job, jobOf, variable}
 use Rattle.jobs.specs.Solution.{number, IsSolution, objective, Optimal, best}
-use Rattle.jobs.specs.Component.{lowest, leads, groupRows, sheetLength}
+use Rattle.jobs.specs.Layout.{groupRowsAt, sheetLength}
+use Rattle.jobs.specs.Component.{lowest, leads}
 use Rattle.jobs.specs.Family.{componentJob}
 use Rattle.jobs.specs.Findings.{findings}
 use Rattle.jobs.specs.Table.{ShortFor, IsFirst}
@@ -134,7 +135,7 @@ module _ (s area : List ℕ) where
     exactly = λ p q. (to p q, from p q);
     untouched = λ p q e. if-refused s area e;
     inside = length-sheet s area long;
-    rest = λ g group f. subst (λ g. drop (groupRows (jobOf s) + 16 * g) (sheet s area) ≡ drop (groupRows (jobOf s) + 16 * g) area) (sym (groups-are (jobOf s) g group f)) (drop-sheet s area);
+    rest = λ g group f. subst (λ g. drop (groupRowsAt (jobOf s) + 16 * g) (sheet s area) ≡ drop (groupRowsAt (jobOf s) + 16 * g) area) (sym (groups-are (jobOf s) g group f)) (drop-sheet s area);
   }
     where
       to : (p q : ℕ) → verdict s area ≡ refused p q → (r : Reason) × ((numberOf r ≡ p) × ((rowOf r ≡ q) × IsFirst (ShortFor (jobOf s) area) s r))

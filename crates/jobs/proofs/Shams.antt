@@ -17,7 +17,8 @@ use Rattle.lists.proofs.Lexicographic.{lower-asym}
 use Rattle.jobs.specs.Bytes.{unsigned}
 use Rattle.jobs.specs.Job.{Job, jobOf, variable}
 use Rattle.jobs.specs.Solution.{number, IsSolution, best}
-use Rattle.jobs.specs.Component.{Joined, IsLead, lowest, leads, sheetLength}
+use Rattle.jobs.specs.Layout.{sheetLength}
+use Rattle.jobs.specs.Component.{Joined, IsLead, lowest, leads}
 use Rattle.jobs.specs.Family.{componentJob, fits, base}
 use Rattle.jobs.specs.Faults.{accepted, refused as turned, checked}
 use Rattle.jobs.specs.Verdict.{planned, noFit, refused, firstWithout, short?}

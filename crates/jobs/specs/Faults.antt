@@ -15,13 +15,13 @@ use Rattle.runs.specs.Workings.{inLimits}
 use Rattle.runs.proofs.Refusals.{in-limits-iff}
 use Rattle.jobs.specs.Bytes.{u32}
 use Rattle.jobs.specs.Decide.{tested, below?, atMost?, equal?, within?, by, both, either, not?, list?, firstOf}
-use Rattle.jobs.specs.Job.{Variable, Equation, jobOf, form, variableCount, equationCount, equationRow, variable, equation}
+use Rattle.jobs.specs.Job.{Variable, Equation, jobOf, form, variableCount, equationCount, equationRowAt, variable, equation}
 use Rattle.jobs.specs.Table.{mark, Header, InRange, Coefficients, Misnamed, Broken, NoArea, checks, Reported}
 
 -- ---- each condition of the table can be decided
 abbrev pub header? : (s : List ℕ) → Dec (Header s)
 header? s =
-    let whole = equationRow (variableCount s) (equationCount s) in
+    let whole = equationRowAt (variableCount s) (equationCount s) in
     by (
       λ h. record { variables = h .0; equations = h .1 .0; length-field = h .1 .1 .0; zeros = h .1 .1 .1 .0; real-length = h .1 .1 .1 .1 },
       λ h. (h .variables, (h .equations, (h .length-field, (h .zeros, h .real-length)))),

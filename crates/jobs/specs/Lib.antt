@@ -1,5 +1,5 @@
 -- What a job is, when it is turned away, what a plan of it is, and what is demanded of one. Read in this order. To be believed is
--- all of it but the decisions in Decide and Faults, Lawful, Method, and Vectors, which is theorems.
+-- all of it but the decisions in Decide and Faults, Lawful, Bounds, Method, and Vectors, which is theorems.
 
 -- numbers in bytes
 pub mod Bytes
@@ -9,6 +9,8 @@ pub mod Job
 pub mod Solution
 -- groups
 pub mod Component
+-- where the parts of a sheet stand
+pub mod Layout
 -- what is read off the fit-outs of one group
 pub mod Family
 -- all that a report shows
@@ -27,6 +29,8 @@ pub mod Sheet
 pub mod Demands
 -- a job that the table does not turn away, as inner functions ask for it
 pub mod Lawful
+-- a job with other bounds, likewise
+pub mod Bounds
 -- what inner functions promise each other
 pub mod Method
 -- small jobs through all of them

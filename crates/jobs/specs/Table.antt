@@ -13,8 +13,9 @@ use Rattle.lists.specs.Table.{table, upTo}
 use Rattle.runs.specs.Run.{bound}
 use Rattle.runs.specs.Workings.{InLimits}
 use Rattle.jobs.specs.Bytes.{unsigned, u32}
-use Rattle.jobs.specs.Component.{Numbered, groupRows}
-use Rattle.jobs.specs.Job.{Variable, Equation, Job, jobOf, form, variableCount, equationCount, equationRow, variable, equation}
+use Rattle.jobs.specs.Layout.{groupRowsAt}
+use Rattle.jobs.specs.Component.{Numbered}
+use Rattle.jobs.specs.Job.{Variable, Equation, Job, jobOf, form, variableCount, equationCount, equationRowAt, variable, equation}
 
 -- ---- the conditions, line by line
 
@@ -26,9 +27,9 @@ mark = 70 ∷ 73 ∷ 84 ∷ 49 ∷ []
 pub record Header (s : List ℕ) : Type 0 where
   pub variables : u32 s 8 ≡ 24
   pub equations : u32 s 12 ≡ 24 + 12 * variableCount s
-  pub length-field : u32 s 16 ≡ equationRow (variableCount s) (equationCount s)
+  pub length-field : u32 s 16 ≡ equationRowAt (variableCount s) (equationCount s)
   pub zeros : u32 s 20 ≡ 0
-  pub real-length : length s ≡ equationRow (variableCount s) (equationCount s)
+  pub real-length : length s ≡ equationRowAt (variableCount s) (equationCount s)
 
 -- "Low and high lie within ±1,000,000,000, weights within ±1,000,000"
 pub record InRange (v : Variable) : Type 0 where
@@ -58,7 +59,7 @@ Broken short s WrongArgument = ⊥
 
 -- for the planner, which is lent an area: "shorter than 24 + 16n + 16g"
 abbrev pub ShortFor : Job → List ℕ → Type 0
-ShortFor j area = (g : ℕ) × ((group : ℕ → ℕ) × (Numbered j g group × (length area < groupRows j + 16 * g)))
+ShortFor j area = (g : ℕ) × ((group : ℕ → ℕ) × (Numbered j g group × (length area < groupRowsAt j + 16 * g)))
 
 -- for the job check, to which no area is lent
 abbrev pub NoArea : Type 0

@@ -11,7 +11,8 @@ use Rattle.lists.proofs.Maps.{same-values}
 use Rattle.jobs.specs.Bytes.{u16, u32}
 use Rattle.jobs.specs.Job.{Job, jobOf}
 use Rattle.jobs.specs.Solution.{number, solutions, objective, best}
-use Rattle.jobs.specs.Component.{lowest, leads, componentCount, component, groupRows}
+use Rattle.jobs.specs.Layout.{groupRowsAt}
+use Rattle.jobs.specs.Component.{lowest, leads, componentCount, component}
 use Rattle.jobs.specs.Family.{componentJob, base, step, chosen, slope}
 use Rattle.jobs.specs.Verdict.{Verdict, planned, noFit, refused, verdict}
 use Rattle.jobs.specs.Sheet.{answerMark, sheet}
@@ -295,7 +296,7 @@ defined v =
     let j = jobOf (v .job) in
     let own : ℕ → Job = λ i. componentJob j (lowest j i) in
     record {
-      header = answerMark ++ length (j .variables) ∷ componentCount j ∷ 24 ∷ groupRows j ∷ [];
+      header = answerMark ++ length (j .variables) ∷ componentCount j ∷ 24 ∷ groupRowsAt j ∷ [];
       worth = objective j (best j);
       numbers = best j;
       sums = best j;

@@ -35,6 +35,12 @@ pub struct Equation {
     pub c: i64,
 }
 
+/// A variable's bounds. They come to the planner apart from the job's bytes, so that the same job can be planned with others.
+pub struct Bounds {
+    pub low: i64,
+    pub high: i64,
+}
+
 /// What the job check answers.
 pub enum Checked {
     Accepted,

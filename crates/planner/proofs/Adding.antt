@@ -16,7 +16,8 @@ use Rattle.lists.proofs.Sums.{sum-next, sum-within}
 use Rattle.runs.specs.declared.Run.{Run}
 use Rattle.jobs.specs.declared.Variable.{Variable}
 use Rattle.jobs.specs.Job.{jobOf, variable, variableAt, variableCount, variableRow}
-use Rattle.jobs.proofs.Lawful.{Lawful, variable-of}
+use Rattle.jobs.specs.Lawful.{Lawful}
+use Rattle.jobs.proofs.JobOf.{variable-of}
 use Rattle.families.proofs.Sizes.{step-within}
 use Rattle.solver.specs.Arrays.{groupIn, runIn}
 use Rattle.planner.specs.Choices.{Members, NoneEmpty, numberIn, worthOf}

@@ -24,7 +24,8 @@ use Rattle.jobs.specs.Sheet.{laidOut}
 use Rattle.jobs.proofs.Components.{in-leads, lowest-le, lowest-self}
 use Rattle.jobs.proofs.Assembly.{without-iff}
 use Rattle.jobs.proofs.Fields.{length-laidOut}
-use Rattle.jobs.proofs.Lawful.{Lawful, lawful-job, variables-of}
+use Rattle.jobs.specs.Lawful.{Lawful}
+use Rattle.jobs.proofs.JobOf.{variables-of}
 use Rattle.families.specs.Family.{choice}
 use Rattle.families.specs.Plan.{leadsBy, componentBy, headerRow, variableRow, groupRow, emptyBy, gainBy, chosenBy, numberBy, worthBy, variableRows, groupRows, laidOutBy}
 use Rattle.families.proofs.Exact.{family-run-is, family-form}

@@ -6,7 +6,7 @@ use lib.IntN.{ℤ}
 use Rattle.reasons.specs.Numbers.{numberOf, rowOf}
 use Rattle.jobs.specs.Job.{Job}
 use Rattle.jobs.specs.Solution.{objective, best}
-use Rattle.jobs.specs.Component.{sheetLength}
+use Rattle.jobs.specs.Layout.{sheetLength}
 use Rattle.jobs.specs.Sheet.{laidOut}
 use Rattle.jobs.specs.Verdict.{Verdict, planned, noFit, refused}
 pub use Rattle.planner.specs.declared.Outcome.{Outcome}

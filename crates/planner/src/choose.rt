@@ -4,7 +4,7 @@ ghost use mathlib.Core.Path.{_≡_};
 ghost use Prim.Native.Nat.{_≤_};
 ghost use Rattle.families.specs.FamilyRun.{FamilyRun};
 ghost use Rattle.jobs.specs.Job.{jobOf, variableCount};
-ghost use Rattle.jobs.proofs.Lawful.{Lawful};
+ghost use Rattle.jobs.specs.Lawful.{Lawful};
 ghost use Rattle.families.specs.Family.{choice};
 ghost use Rattle.solver.specs.Groups.{Labelled};
 ghost use Rattle.planner.specs.Choices.{Members, NoneEmpty, FirstEmpty, Gains, numberAt, worthOf};

@@ -16,9 +16,12 @@ use Rattle.jobs.specs.Faults.{answerOf, noArea?, ChecksExactly}
 use Rattle.jobs.specs.Job.{jobOf, variableCount, equationCount}
 use Rattle.jobs.specs.Component.{lowest, lowestBy, leads, componentCount}
 use Rattle.jobs.proofs.Faults.{sound-iff}
-use Rattle.jobs.proofs.Lawful.{Lawful, lawful, variables-of, equations-of}
+use Rattle.jobs.specs.Lawful.{Lawful}
+use Rattle.jobs.proofs.JobOf.{variables-of, equations-of}
+use Rattle.jobs.proofs.Lawful.{lawful}
 use Rattle.solver.specs.Analysis.{State, Families}
-use Rattle.solver.specs.Bounds.{Bounds, withBounds, BoundedBy, BoundsOf}
+use Rattle.jobs.specs.Bounds.{Bounds, withBounds, BoundedBy}
+use Rattle.solver.specs.Bounds.{BoundsOf}
 use Rattle.solver.specs.Groups.{Labels}
 use Rattle.solver.proofs.Rebounding.{own-bounds, own-bounded}
 

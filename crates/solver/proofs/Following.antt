@@ -12,17 +12,20 @@ use Rattle.runs.specs.Workings.{InLimits}
 use Rattle.families.specs.FamilyRun.{FamilyRun}
 use Rattle.jobs.specs.declared.Equation.{Equation}
 use Rattle.jobs.specs.Job.{Job, jobOf, equationRow, equationFrom, form, variable, equation, noEquation}
-use Rattle.jobs.proofs.Lawful.{LawfulJob, lawful-job, variables-of, equations-of}
+use Rattle.jobs.specs.Lawful.{LawfulJob}
+use Rattle.jobs.proofs.JobOf.{variables-of, equations-of}
+use Rattle.jobs.proofs.Lawful.{lawful-job}
 use Rattle.jobs.specs.Component.{lowest}
 use Rattle.jobs.specs.Family.{familyRun}
 use Rattle.families.specs.Model.{Indices as Pair, interval, kept}
 use Rattle.solver.specs.declared.join.Indices.{Indices}
 use Rattle.solver.specs.Analysis.{Families}
-use Rattle.solver.specs.Bounds.{Bounds, withBounds, BoundedBy, Begins}
+use Rattle.jobs.specs.Bounds.{Bounds, withBounds, BoundedBy}
+use Rattle.solver.specs.Bounds.{Begins}
 use Rattle.solver.specs.Groups.{Labelled, Merges, Apart}
 use Rattle.solver.specs.Steps.{indicesBy, Reducible, Reduces}
 use Rattle.solver.proofs.Rows.{Sizes, n-most, row-is}
-use Rattle.solver.proofs.Rebounding.{same-length, same-equations, variable-with, lawful-with}
+use Rattle.jobs.proofs.WithBounds.{same-length, same-equations, variable-with, lawful-with}
 use Rattle.solver.proofs.Stepping as stepping
 
 -- what is known at equation k, whose row is e

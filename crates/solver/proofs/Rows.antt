@@ -6,7 +6,8 @@ use native.Mathlib.Omega.{arith}
 use lib.ListN.{length}
 use Rattle.jobs.specs.declared.Equation.{Equation}
 use Rattle.jobs.specs.Job.{jobOf, variableCount, equationCount, equationRow, equationFrom, equationAt, equation}
-use Rattle.jobs.proofs.Lawful.{Lawful, LawfulEquation, equation-of}
+use Rattle.jobs.specs.Lawful.{Lawful, LawfulEquation}
+use Rattle.jobs.proofs.JobOf.{equation-of}
 
 -- what a loop knows: the job is lawful, and n and m are its numbers of variables and equations
 abbrev pub Sizes : List ℕ → ℕ → ℕ → Type 0

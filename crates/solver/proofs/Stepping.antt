@@ -13,7 +13,7 @@ use Rattle.families.specs.FamilyRun.{FamilyRun}
 use Rattle.jobs.specs.declared.Equation.{Equation}
 use Rattle.jobs.specs.Job.{Job, form, variable, equation}
 use Rattle.jobs.specs.Component.{merged, lowestBy, lowest}
-use Rattle.jobs.proofs.Lawful.{LawfulJob, LawfulEquation}
+use Rattle.jobs.specs.Lawful.{LawfulJob, LawfulEquation}
 use Rattle.jobs.proofs.Components.{lowestBy-le}
 use Rattle.families.specs.Model.{State, groupAt, runAt, Indices as Pair, interval, start, runAfter, kept, change, next, familiesBy, families}
 use Rattle.jobs.specs.Family.{familyRun}

@@ -1,41 +1,18 @@
--- Bounds that come apart from the job's bytes: the job is then the same but for its variables' bounds.
+-- The bounds in the rows of a job, and what its variables begin with.
 use mathlib.Core.List.{List}
-use Prim.Native.Nat.{ℕ, _<_}
-use lib.ListN.{length, getD}
-use lib.IntN.{pos}
-use Rattle.ints.specs.Within.{Within}
-use Rattle.lists.specs.Table.{table}
+use Prim.Native.Nat.{ℕ}
+use lib.ListN.{getD}
 use Rattle.runs.specs.declared.Run.{Run}
-use Rattle.runs.specs.Run.{bound, empty, full}
+use Rattle.runs.specs.Run.{empty, full}
 use Rattle.runs.specs.Search.{meet}
-use Rattle.jobs.specs.Job.{Job, variable, variableAt}
+use Rattle.jobs.specs.Job.{jobOf, variable}
+use Rattle.jobs.specs.Bounds.{Bounds, noBounds}
 use Rattle.families.specs.Model.{interval}
 use Rattle.solver.specs.Arrays.{Holds}
-pub use Rattle.solver.specs.declared.Bounds.{Bounds}
-
--- past the last of a list all is 0
-abbrev pub noBounds : Bounds
-noBounds = record { low = pos 0; high = pos 0 }
-
--- the job with these bounds in place of its own
-unfoldable pub withBounds : Job → List Bounds → Job
-unfolding table
-withBounds j bounds = record {
-  variables = table (λ i. record { low = getD bounds i noBounds .low; high = getD bounds i noBounds .high; weight = variable j i .weight }) (length (j .variables));
-  equations = j .equations;
-}
-
--- "Low and high lie within ±1,000,000,000"
-pub record Bounded (b : Bounds) : Type 0 where
-  pub low : Within bound (b .low)
-  pub high : Within bound (b .high)
-
-pub record BoundedBy (bounds : List Bounds) (n : ℕ) : Type 0 where
-  pub at : (i : ℕ) → i < n → Bounded (getD bounds i noBounds)
 
 -- the bounds in the rows of a job
 abbrev pub BoundsOf : List ℕ → ℕ → List Bounds → Type 0
-BoundsOf s = Holds noBounds (λ i. record { low = variableAt s i .low; high = variableAt s i .high })
+BoundsOf s = Holds noBounds (λ i. record { low = variable (jobOf s) i .low; high = variable (jobOf s) i .high })
 
 -- the full range met with each variable's bounds
 abbrev pub Begins : List Bounds → ℕ → List Run → Type 0

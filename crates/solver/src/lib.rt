@@ -5,7 +5,7 @@
 ghost use mathlib.Core.Path.{_≡_};
 ghost use Rattle.jobs.specs.declared.Checked.the-variants.{Accepted, Refused};
 ghost use Rattle.jobs.specs.Faults.{answerOf, accepted, checked};
-ghost use Rattle.jobs.proofs.Lawful.{Lawful};
+ghost use Rattle.jobs.specs.Lawful.{Lawful};
 ghost use Rattle.solver.specs.Analysis.{Analysed};
 use jobs::Checked;
 use jobs::header;
@@ -24,12 +24,6 @@ pub mod groups;
 pub mod range;
 // the equations, one after the other
 pub mod equations;
-
-/// A variable's bounds. They come to the planner apart from the job's bytes, so that the same job can be planned with others.
-pub struct Bounds {
-    pub low: i64,
-    pub high: i64,
-}
 
 /// What is known while the equations are taken in, for each variable by its number.
 ///

@@ -6,7 +6,8 @@ use borrow.Author.Needs.{needs}
 use native.Mathlib.Omega.{arith}
 use lib.ListN.{length}
 use Rattle.jobs.specs.Job.{jobOf, variableCount, equationCount}
-use Rattle.jobs.specs.Component.{componentCount, sheetLength}
+use Rattle.jobs.specs.Layout.{sheetLength}
+use Rattle.jobs.specs.Component.{componentCount}
 use Rattle.jobs.specs.Verdict.{planned, verdict}
 use Rattle.jobs.proofs.Components.{length-leads}
 use Rattle.solver.specs.declared.State.{State}

@@ -6,7 +6,7 @@ use Rattle.ints.proofs.{arith}
 use Rattle.ints.proofs.Signed.{held}
 use Rattle.jobs.specs.Job.{jobOf}
 use Rattle.jobs.specs.Verdict.{planned}
-use Rattle.jobs.proofs.Lawful.{variables-of}
+use Rattle.jobs.proofs.JobOf.{variables-of}
 use Rattle.planner.specs.Area.{over}
 use Rattle.planner.specs.Choices.{worthOf, sheetOf}
 use Rattle.solver.proofs.Sizes.{fits}

@@ -3,7 +3,7 @@ use denote.Ref.{now}
 use mathlib.Core.Path.{_≡_, sym, _∙_, ap}
 use mathlib.Core.List.{List}
 use Prim.Native.Nat.{ℕ, _<_}
-use Rattle.jobs.specs.Job.{jobOf, variableCount, equationCount, equationRow, equationFrom, equation}
+use Rattle.jobs.specs.Job.{jobOf, variableCount, equationCount, equationRowAt, equationFrom, equation}
 use Rattle.jobs.proofs.Reading.{given}
 use Rattle.jobs.proofs.JobOf.{equation-of}
 use borrow.Author.Needs.{needs}
@@ -11,8 +11,8 @@ use Rattle.jobs.proofs.Equation.read.Statement.{statement}
 use Rattle.jobs.proofs.Equation.read.Tie as tie
 
 -- the row behind those of n variables
-from-row : (s : List ℕ) {n : ℕ} → n ≡ variableCount s → (k : ℕ) → k < equationCount s → equationFrom s (equationRow n k) ≡ equation (jobOf s) k
-from-row s e k h = ap (λ n. equationFrom s (equationRow n k)) e ∙ sym (equation-of s k h)
+from-row : (s : List ℕ) {n : ℕ} → n ≡ variableCount s → (k : ℕ) → k < equationCount s → equationFrom s (equationRowAt n k) ≡ equation (jobOf s) k
+from-row s e k h = ap (λ n. equationFrom s (equationRowAt n k)) e ∙ sym (equation-of s k h)
 
 mul-at : tie.Need-mul-at
 mul-at c = search needs

@@ -14,7 +14,7 @@ use Rattle.lists.specs.Sums.{sum, pick, sumOf}
 use Rattle.lists.proofs.Sums.{sum-next, pick-yes, pick-no}
 use Rattle.runs.specs.declared.Run.{Run}
 use Rattle.jobs.specs.Job.{Job, jobOf, variable, variableCount}
-use Rattle.jobs.proofs.Lawful.{variables-of}
+use Rattle.jobs.proofs.JobOf.{variables-of}
 use Rattle.families.specs.Plan.{gainBy}
 use Rattle.families.proofs.Sizes.{step-within}
 use Rattle.solver.specs.Arrays.{groupIn, runIn}

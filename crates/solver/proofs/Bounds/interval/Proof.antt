@@ -16,7 +16,7 @@ use Rattle.runs.specs.declared.Run.{Run}
 use Rattle.runs.specs.Run.{empty}
 use Rattle.runs.specs.Method.{progression}
 use Rattle.families.specs.Model.{interval}
-use Rattle.solver.specs.Bounds.{Bounds, Bounded}
+use Rattle.jobs.specs.Bounds.{Bounds, Bounded}
 use Rattle.solver.proofs.Sizes.{fits}
 use Rattle.solver.proofs.Bounds.interval.Statement.{statement}
 use Rattle.solver.proofs.Bounds.interval.Tie as tie

@@ -11,11 +11,12 @@ use Rattle.runs.specs.Run.{empty}
 use Rattle.runs.specs.Workings.{InLimits}
 use Rattle.jobs.specs.declared.Equation.{Equation}
 use Rattle.jobs.specs.Job.{jobOf, variableCount, equationCount, form}
-use Rattle.jobs.proofs.Lawful.{Lawful}
+use Rattle.jobs.specs.Lawful.{Lawful}
 use Rattle.families.specs.Model.{kept}
 use Rattle.solver.specs.declared.equations.Kept.{Kept}
 use Rattle.solver.specs.declared.equations.Kept.the-variants.{All, At as At-indices}
-use Rattle.solver.specs.Bounds.{Bounds, withBounds, BoundedBy, Begins}
+use Rattle.jobs.specs.Bounds.{Bounds, withBounds, BoundedBy}
+use Rattle.solver.specs.Bounds.{Begins}
 use Rattle.solver.specs.Steps.{keptBy}
 use Rattle.solver.proofs.Rows.{Sizes, n-most, row-asked, left-below, right-below}
 use Rattle.solver.proofs.Stepping.{Follows}

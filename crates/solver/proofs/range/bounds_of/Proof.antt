@@ -10,7 +10,7 @@ use mir.Facts.{toZ-ofZ}
 use Rattle.ints.proofs.Signed.{held}
 use Rattle.jobs.specs.declared.Variable.{Variable}
 use Rattle.jobs.specs.Job.{variableAt}
-use Rattle.solver.specs.Bounds.{Bounds, noBounds}
+use Rattle.jobs.specs.Bounds.{Bounds, noBounds}
 use Rattle.solver.proofs.Passes.{Filled, unfilled, filled}
 use Rattle.solver.proofs.range.bounds_of.Statement.{statement}
 use Rattle.solver.proofs.range.bounds_of.Tie as tie
