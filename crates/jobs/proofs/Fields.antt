@@ -20,7 +20,7 @@ use Rattle.jobs.specs.Layout.{sheetLength}
 use Rattle.jobs.specs.Component.{componentCount, component}
 use Rattle.jobs.specs.Findings.{Findings, findings}
 use Rattle.jobs.specs.Verdict.{Verdict, planned, noFit, refused, verdict}
-use Rattle.jobs.specs.Sheet.{sheetHeader, sheetVariable, sheetGroup, laidOut, areaAfter, sheet}
+use Rattle.jobs.specs.Sheet.{sheetHeader, sheetVariable, sheetGroup, sheetVariables, sheetGroups, laidOut, areaAfter, sheet}
 use Rattle.jobs.specs.Demands.{worthOn, numberOn, baseOn, stepOn, LaidOut}
 use Rattle.jobs.proofs.Writing.{Holds, within-holds, unsigned-first, unsigned-past, unsigned-part, unsigned-bytesOf, signed-field}
 use Rattle.jobs.proofs.Components.{length-leads, component-below}
@@ -31,13 +31,21 @@ pub length-header : (n g : ℕ) (worth : ℤ) → length (sheetHeader n g worth)
 unfolding sheetHeader
 length-header n g worth = refl
 
-pub length-variable : (x : ℤ) (r : Run) (group : ℕ) → length (sheetVariable x r group) ≡ 16
+length-variable : (x : ℤ) (r : Run) (group : ℕ) → length (sheetVariable x r group) ≡ 16
 unfolding sheetVariable
 length-variable x r group = refl
 
-pub length-group : (many k : ℕ) (gain : ℤ) → length (sheetGroup many k gain) ≡ 16
+length-group : (many k : ℕ) (gain : ℤ) → length (sheetGroup many k gain) ≡ 16
 unfolding sheetGroup
 length-group many k gain = refl
+
+pub length-variables : (x : ℕ → ℤ) (r : ℕ → Run) (group : ℕ → ℕ) (n : ℕ) → length (sheetVariables x r group n) ≡ 16 * n
+unfolding sheetVariables
+length-variables x r group n = length-flatMap (λ i. sheetVariable (x i) (r i) (group i)) 16 (λ i. length-variable (x i) (r i) (group i)) (upTo n) ∙ ap (λ n. 16 * n) (length-upTo n)
+
+pub length-groups : (r : ℕ → Run) (k : ℕ → ℕ) (gain : ℕ → ℤ) (leaders : List ℕ) → length (sheetGroups r k gain leaders) ≡ 16 * length leaders
+unfolding sheetGroups
+length-groups r k gain leaders = length-flatMap (λ l. sheetGroup (r l .many) (k l) (gain l)) 16 (λ l. length-group (r l .many) (k l) (gain l)) leaders
 
 module _ (f : Findings) where
   abbrev header : List ℕ
@@ -50,20 +58,20 @@ module _ (f : Findings) where
   groupRow l = sheetGroup (f .run l .many) (f .index l) (f .gain l)
 
   abbrev variableRows : List ℕ
-  variableRows = flatMap variableRow (upTo (f .n))
+  variableRows = sheetVariables (f .assigned) (f .run) (f .group) (f .n)
 
   abbrev groupRows : List ℕ
-  groupRows = flatMap groupRow (f .leaders)
+  groupRows = sheetGroups (f .run) (f .index) (f .gain) (f .leaders)
 
   laidOut-is : laidOut f ≡ header ++ variableRows ++ groupRows
   unfolding laidOut
   laidOut-is = refl
 
   length-variableRows : length variableRows ≡ 16 * f .n
-  length-variableRows = length-flatMap variableRow 16 (λ i. length-variable (f .assigned i) (f .run i) (f .group i)) (upTo (f .n)) ∙ ap (λ n. 16 * n) (length-upTo (f .n))
+  length-variableRows = length-variables (f .assigned) (f .run) (f .group) (f .n)
 
   length-groupRows : length groupRows ≡ 16 * length (f .leaders)
-  length-groupRows = length-flatMap groupRow 16 (λ l. length-group (f .run l .many) (f .index l) (f .gain l)) (f .leaders)
+  length-groupRows = length-groups (f .run) (f .index) (f .gain) (f .leaders)
 
   length-front : length (header ++ variableRows) ≡ 24 + 16 * f .n
   length-front = length-both header variableRows (length-header (f .n) (length (f .leaders)) (f .worth)) length-variableRows
@@ -84,6 +92,7 @@ module _ (f : Findings) where
     in-header at h = in-front at (omega arith) ∙ unsigned-first k header variableRows at (omega (arith, length-header (f .n) (length (f .leaders)) (f .worth)))
 
     in-variable : (i at : ℕ) → i < f .n → at + k ≤ 16 → unsigned k (laidOut f ++ rest) (24 + 16 * i + at) ≡ unsigned k (variableRow i) at
+    unfolding sheetVariables
     in-variable i at h l =
         let e : 24 + 16 * i + at ≡ 24 + (16 * i + at) = omega arith in
         in-front (24 + 16 * i + at) (omega arith)
@@ -93,6 +102,7 @@ module _ (f : Findings) where
         ∙ ap (λ i. unsigned k (variableRow i) at) (table-at (λ i. i) (f .n) i 0 h)
 
     in-group : (g at : ℕ) → g < length (f .leaders) → at + k ≤ 16 → unsigned k (laidOut f ++ rest) (24 + 16 * f .n + 16 * g + at) ≡ unsigned k (groupRow (getD (f .leaders) g 0)) at
+    unfolding sheetGroups
     in-group g at h l =
         let e : 24 + 16 * f .n + 16 * g + at ≡ 24 + 16 * f .n + (16 * g + at) = omega arith in
         in-sheet (24 + 16 * f .n + 16 * g + at) (omega arith)
@@ -207,13 +217,18 @@ module _ {f g : Findings} (a : Agree f g) where
   same-group : (l : ℕ) → l ∈ f .leaders → groupRow f l ≡ groupRow g l
   same-group l m = rw (a .many l m, a .choices l m, a .gains l m) refl
 
+  same-variables : variableRows f ≡ variableRows g
+  unfolding sheetVariables
+  same-variables =
+      flatMap-same (variableRow f) (variableRow g) (upTo (f .n)) (λ i m. same-variable i (in-upTo (f .n) i .0 m))
+      ∙ ap (λ n. flatMap (variableRow g) (upTo n)) (a .variables)
+
+  same-groups : groupRows f ≡ groupRows g
+  unfolding sheetGroups
+  same-groups = flatMap-same (groupRow f) (groupRow g) (f .leaders) same-group ∙ ap (flatMap (groupRow g)) (a .leading)
+
   pub same-layout : laidOut f ≡ laidOut g
-  same-layout =
-      laidOut-is f
-      ∙ ap₂ _++_ (ap₂ _++_ same-header
-      (flatMap-same (variableRow f) (variableRow g) (upTo (f .n)) (λ i m. same-variable i (in-upTo (f .n) i .0 m)) ∙ ap (λ n. flatMap (variableRow g) (upTo n)) (a .variables)))
-      (flatMap-same (groupRow f) (groupRow g) (f .leaders) same-group ∙ ap (flatMap (groupRow g)) (a .leading))
-      ∙ sym (laidOut-is g)
+  same-layout = laidOut-is f ∙ ap₂ _++_ (ap₂ _++_ same-header same-variables) same-groups ∙ sym (laidOut-is g)
 
 -- ---- the area after the call: as long as before, and with the same past the sheet
 length-after : (f : Findings) (v : Verdict) (area : List ℕ) → ((w : ℤ) → v ≡ planned w → length (laidOut f) ≤ length area) → length (areaAfter f v area) ≡ length area

@@ -33,13 +33,22 @@ unfoldable pub sheetGroup : ℕ → ℕ → ℤ → List ℕ
 unfolding bytesOf signedBytes
 sheetGroup many k gain = bytesOf 4 many ++ bytesOf 4 k ++ signedBytes 8 gain
 
+-- the rows of n variables, and those of the groups with these lowest variables
+unfoldable pub sheetVariables : (ℕ → ℤ) → (ℕ → Run) → (ℕ → ℕ) → ℕ → List ℕ
+unfolding table flatMap sheetVariable
+sheetVariables x r group n = flatMap (λ i. sheetVariable (x i) (r i) (group i)) (upTo n)
+
+unfoldable pub sheetGroups : (ℕ → Run) → (ℕ → ℕ) → (ℕ → ℤ) → List ℕ → List ℕ
+unfolding flatMap sheetGroup
+sheetGroups r k gain leaders = flatMap (λ l. sheetGroup (r l .many) (k l) (gain l)) leaders
+
 -- all of it
 unfoldable pub laidOut : Findings → List ℕ
-unfolding sheetHeader table flatMap sheetVariable sheetGroup
+unfolding sheetHeader sheetVariables sheetGroups
 laidOut f =
     sheetHeader (f .n) (length (f .leaders)) (f .worth)
-    ++ flatMap (λ i. sheetVariable (f .assigned i) (f .run i) (f .group i)) (upTo (f .n))
-    ++ flatMap (λ l. sheetGroup (f .run l .many) (f .index l) (f .gain l)) (f .leaders)
+    ++ sheetVariables (f .assigned) (f .run) (f .group) (f .n)
+    ++ sheetGroups (f .run) (f .index) (f .gain) (f .leaders)
 
 -- "Bytes past 24 + 16n + 16g keep their contents." "On no fit and on refusal the whole answer area keeps its contents."
 unfoldable pub areaAfter : Findings → Verdict → List ℕ → List ℕ
