@@ -20,7 +20,8 @@ use Rattle.jobs.specs.Lawful.{Lawful}
 use Rattle.jobs.proofs.JobOf.{variables-of, equations-of}
 use Rattle.jobs.proofs.Lawful.{lawful}
 use Rattle.planner.specs.Analysis.{State, Families}
-use Rattle.jobs.specs.Bounds.{Bounds, withBounds, BoundedBy}
+use Rattle.jobs.specs.declared.Bounds.{Bounds}
+use Rattle.jobs.specs.Bounds.{withBounds, BoundedBy}
 use Rattle.planner.specs.Bounds.{BoundsOf}
 use Rattle.planner.specs.Groups.{Labels}
 use Rattle.planner.proofs.Rebounding.{own-bounds, own-bounded}

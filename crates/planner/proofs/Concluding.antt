@@ -26,7 +26,6 @@ use Rattle.jobs.proofs.Assembly.{without-iff}
 use Rattle.jobs.proofs.Fields.{length-laidOut}
 use Rattle.jobs.specs.Lawful.{Lawful}
 use Rattle.jobs.proofs.JobOf.{variables-of}
-use Rattle.jobs.proofs.Lawful.{lawful-job}
 use Rattle.families.specs.Family.{familyRun, choice}
 use Rattle.families.specs.Plan.{leadsBy, componentBy, headerRow, variableRow, groupRow, emptyBy, gainBy, chosenBy, numberBy, worthBy, variableRows, groupRows, laidOutBy}
 use Rattle.families.proofs.Exact.{family-run-is, family-form}
@@ -86,10 +85,10 @@ module _ (s : List ℕ) (z : Lawful s) (x : State) (f : Families (jobOf s) x) wh
     labelled = record { at = labels .low }
 
     pub members : Members (x .runs) n
-    members = record { at = λ i h. subst FamilyRun (sym (f .run i (within h) ∙ family-run-is j i)) (family-form j (lawful-job s z) i (within h)) }
+    members = record { at = λ i h. subst FamilyRun (sym (f .run i (within h) ∙ family-run-is j i)) (family-form j (z .job) i (within h)) }
 
     pub counted : (k : ℕ) → k ≡ componentCount j → k ≡ length (leadsBy g n)
-    counted k q = q ∙ sym (ap length (ap (leadsBy g) all ∙ leads-by j (lawful-job s z) g r told))
+    counted k q = q ∙ sym (ap length (ap (leadsBy g) all ∙ leads-by j (z .job) g r told))
 
     -- ---- the first group without a solution
     lead-many : (l : ℕ) → l ∈ leads j → fits (componentJob j l) ≡ r l .many
@@ -122,7 +121,7 @@ module _ (s : List ℕ) (z : Lawful s) (x : State) (f : Families (jobOf s) x) wh
               absurd (omega (arith, some-fit .at l (omega (arith, all, in-leads j l .0 m .0)), sym (lead-many l m) ∙ h .0))
 
       empty : emptyBy j g r ≡ none
-      empty = empty-by j (lawful-job s z) g r told ∙ full
+      empty = empty-by j (z .job) g r told ∙ full
 
       -- ---- the numbers, the worth and the bytes
       module _ (gains : List ℤ) (sums : Gains j (x .groups) (x .runs) n gains) where
@@ -138,7 +137,7 @@ module _ (s : List ℕ) (z : Lawful s) (x : State) (f : Families (jobOf s) x) wh
             ∙ ap (λ m. sum m (λ i. variable j i .weight *ℤ numberBy j g r i)) all
 
         pub worth-best : worthOf j (x .groups) (x .runs) gains n ≡ worthOfBest j
-        worth-best = worth-is ∙ worth-by j (lawful-job s z) g r told empty
+        worth-best = worth-is ∙ worth-by j (z .job) g r told empty
 
         variables-are : variableRowsOf (x .groups) (x .runs) gains (table (componentBy g n) n) n ≡ variableRows j g r
         unfolding variableRowsOf variableRows
@@ -161,7 +160,7 @@ module _ (s : List ℕ) (z : Lawful s) (x : State) (f : Families (jobOf s) x) wh
             ∙ ap (λ m. headerRow m (length (leadsBy g m)) (worthBy j g r) ++ variableRows j g r ++ groupRows j g r) all
 
         laid-best : sheetOf (x .groups) (x .runs) gains n (worthOf j (x .groups) (x .runs) gains n) ≡ laidOut j (best j) (worthOfBest j)
-        laid-best = ap (sheetOf (x .groups) (x .runs) gains n) worth-is ∙ sheet-is ∙ laid-by j (lawful-job s z) g r told empty
+        laid-best = ap (sheetOf (x .groups) (x .runs) gains n) worth-is ∙ sheet-is ∙ laid-by j (z .job) g r told empty
 
         pub area-best : (a : List ℕ) → over 0 (sheetOf (x .groups) (x .runs) gains n (worthOf j (x .groups) (x .runs) gains n)) a ≡ sheetOfBest j a
         area-best a =
