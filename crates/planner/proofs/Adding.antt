@@ -2,12 +2,12 @@
 use mathlib.Core.Path.{_≡_, sym, _∙_, ap, ap₂, subst}
 use mathlib.Core.Bool.{Bool, true, false}
 use mathlib.Core.List.{List}
-use Prim.Native.Nat.{ℕ, _+_, _*_, _≤_, _<_}
+use Prim.Native.Nat.{ℕ, _+_, _≤_, _<_}
 use mir.Syntax.{w64}
 use mir.Val.{SFits}
 use mir.Facts.{toZ-ofZ}
 use lib.Dec.{eqb}
-use lib.ListN.{length, getD}
+use lib.ListN.{getD}
 use Rattle.ints.specs.Within.{Within}
 use Rattle.ints.proofs.{ℤ, pos, _+ℤ_, _*ℤ_, [], _∷_, arith, lin, _&_, facts, within-mul}
 use Rattle.ints.proofs.Signed.{held}
@@ -15,9 +15,9 @@ use Rattle.lists.specs.Sums.{pick, sumOf}
 use Rattle.lists.proofs.Sums.{sum-next, sum-within}
 use Rattle.runs.specs.declared.Run.{Run}
 use Rattle.jobs.specs.declared.Variable.{Variable}
-use Rattle.jobs.specs.Job.{jobOf, variable, variableAt, variableCount, variableRow}
+use Rattle.jobs.specs.Job.{jobOf, RowsInside, variable, variableCount}
 use Rattle.jobs.specs.Lawful.{Lawful}
-use Rattle.jobs.proofs.JobOf.{variable-of}
+use Rattle.jobs.proofs.JobOf.{variables-of}
 use Rattle.families.proofs.Sizes.{step-within}
 use Rattle.solver.specs.Arrays.{groupIn, runIn}
 use Rattle.planner.specs.Choices.{Members, NoneEmpty, numberIn, worthOf}
@@ -50,19 +50,18 @@ module _ {s w x s′ w′ x′ : ℤ} (p : s′ ≡ s) (q : w′ ≡ w) (r : x�
 -- ---- the weight in row i of a lawful job
 module _ {s : List ℕ} {n : ℕ} (z : Lawful s) (e : n ≡ variableCount s) where
   pub n-at-most : n ≤ 256
-  n-at-most = omega (arith, e, z .header .variables)
+  n-at-most = omega (arith, e, z .rows .variables)
 
-  pub variable-asked : (i : ℕ) → i < n → (i < 65536) × (variableRow (i + 1) ≤ length s)
-  variable-asked i h = (omega (arith, n-at-most), omega (arith, e, z .header .header .real-length))
+  pub variable-asked : (i : ℕ) → i < n → RowsInside s × (i < variableCount s)
+  variable-asked i h = (z .rows, omega (arith, e))
 
   pub weight-within : (i : ℕ) → i < n → Within 1000000 (variable (jobOf s) i .weight)
-  weight-within i h = let l : i < variableCount s = omega (arith, e) in subst (λ v. Within 1000000 (v .weight)) (sym (variable-of s i l)) (z .variable i l .weight)
+  weight-within i h = z .job .each-variable i (omega (arith, e, variables-of s)) .weight
 
   -- as a local holds it
-  pub held-weight : (i : ℕ) → i < n → (v : Variable) → v ≡ variableAt s i → held (v .weight) ≡ variable (jobOf s) i .weight
+  pub held-weight : (i : ℕ) → i < n → (v : Variable) → v ≡ variable (jobOf s) i → held (v .weight) ≡ variable (jobOf s) i .weight
   held-weight i h v r =
-      ap (λ v. held (v .weight)) (r ∙ sym (variable-of s i (omega (arith, e))))
-      ∙ toZ-ofZ (fits 1000000 (omega arith) (weight-within i h))
+      ap (λ v. held (v .weight)) r ∙ toZ-ofZ (fits 1000000 (omega arith) (weight-within i h))
 
   -- ---- sums over the first i variables
   module _ (groups : List ℕ) (runs : List Run) (m : Members runs n) where

@@ -87,10 +87,10 @@ module _ (s : List ℕ) (z : Lawful s) (x : State) (f : Families (jobOf s) x) wh
     labelled = record { at = labels .low }
 
     pub members : Members (x .runs) n
-    members = record { at = λ i h. subst FamilyRun (sym (f .run i (within h) ∙ family-run-is j i)) (family-form j (lawful-job s z) i (within h)) }
+    members = record { at = λ i h. subst FamilyRun (sym (f .run i (within h) ∙ family-run-is j i)) (family-form j (z .job) i (within h)) }
 
     pub counted : (k : ℕ) → k ≡ componentCount j → k ≡ length (leadsBy g n)
-    counted k q = q ∙ sym (ap length (ap (leadsBy g) all ∙ leads-by j (lawful-job s z) g r told))
+    counted k q = q ∙ sym (ap length (ap (leadsBy g) all ∙ leads-by j (z .job) g r told))
 
     -- ---- the first group without a solution
     lead-many : (l : ℕ) → l ∈ leads j → fits (componentJob j l) ≡ r l .many
@@ -123,7 +123,7 @@ module _ (s : List ℕ) (z : Lawful s) (x : State) (f : Families (jobOf s) x) wh
               absurd (omega (arith, some-fit .at l (omega (arith, all, in-leads j l .0 m .0)), sym (lead-many l m) ∙ h .0))
 
       empty : emptyBy j g r ≡ none
-      empty = empty-by j (lawful-job s z) g r told ∙ full
+      empty = empty-by j (z .job) g r told ∙ full
 
       -- ---- the numbers, the worth and the bytes
       module _ (gains : List ℤ) (sums : Gains j (x .groups) (x .runs) n gains) where
@@ -139,7 +139,7 @@ module _ (s : List ℕ) (z : Lawful s) (x : State) (f : Families (jobOf s) x) wh
             ∙ ap (λ m. sum m (λ i. variable j i .weight *ℤ numberBy j g r i)) all
 
         pub worth-best : worthOf j (x .groups) (x .runs) gains n ≡ worthOfBest j
-        worth-best = worth-is ∙ worth-by j (lawful-job s z) g r told empty
+        worth-best = worth-is ∙ worth-by j (z .job) g r told empty
 
         variables-are : variableRowsOf (x .groups) (x .runs) gains (table (componentBy g n) n) n ≡ variableRows j g r
         unfolding variableRowsOf variableRows
@@ -162,7 +162,7 @@ module _ (s : List ℕ) (z : Lawful s) (x : State) (f : Families (jobOf s) x) wh
             ∙ ap (λ m. headerRow m (length (leadsBy g m)) (worthBy j g r) ++ variableRows j g r ++ groupRows j g r) all
 
         laid-best : sheetOf (x .groups) (x .runs) gains n (worthOf j (x .groups) (x .runs) gains n) ≡ laidOut j (best j) (worthOfBest j)
-        laid-best = ap (sheetOf (x .groups) (x .runs) gains n) worth-is ∙ sheet-is ∙ laid-by j (lawful-job s z) g r told empty
+        laid-best = ap (sheetOf (x .groups) (x .runs) gains n) worth-is ∙ sheet-is ∙ laid-by j (z .job) g r told empty
 
         pub area-best : (a : List ℕ) → over 0 (sheetOf (x .groups) (x .runs) gains n (worthOf j (x .groups) (x .runs) gains n)) a ≡ sheetOfBest j a
         area-best a =

@@ -20,7 +20,8 @@ use Rattle.jobs.specs.Lawful.{Lawful}
 use Rattle.jobs.proofs.JobOf.{variables-of, equations-of}
 use Rattle.jobs.proofs.Lawful.{lawful}
 use Rattle.solver.specs.Analysis.{State, Families}
-use Rattle.jobs.specs.Bounds.{Bounds, withBounds, BoundedBy}
+use Rattle.jobs.specs.declared.Bounds.{Bounds}
+use Rattle.jobs.specs.Bounds.{withBounds, BoundedBy}
 use Rattle.solver.specs.Bounds.{BoundsOf}
 use Rattle.solver.specs.Groups.{Labels}
 use Rattle.solver.proofs.Rebounding.{own-bounds, own-bounded}

@@ -11,20 +11,20 @@ use Rattle.runs.specs.Search.{meet}
 use Rattle.runs.specs.Workings.{InLimits}
 use Rattle.families.specs.FamilyRun.{FamilyRun}
 use Rattle.jobs.specs.declared.Equation.{Equation}
-use Rattle.jobs.specs.Job.{Job, jobOf, equationRow, equationFrom, form, variable, equation, noEquation}
+use Rattle.jobs.specs.Job.{Job, jobOf, form, variable, equation, noEquation}
 use Rattle.jobs.specs.Lawful.{LawfulJob}
 use Rattle.jobs.proofs.JobOf.{variables-of, equations-of}
-use Rattle.jobs.proofs.Lawful.{lawful-job}
 use Rattle.jobs.specs.Component.{lowest}
 use Rattle.jobs.specs.Family.{familyRun}
 use Rattle.families.specs.Model.{Indices as Pair, interval, kept}
 use Rattle.solver.specs.declared.join.Indices.{Indices}
 use Rattle.solver.specs.Analysis.{Families}
-use Rattle.jobs.specs.Bounds.{Bounds, withBounds, BoundedBy}
+use Rattle.jobs.specs.declared.Bounds.{Bounds}
+use Rattle.jobs.specs.Bounds.{withBounds, BoundedBy}
 use Rattle.solver.specs.Bounds.{Begins}
 use Rattle.solver.specs.Groups.{Labelled, Merges, Apart}
 use Rattle.solver.specs.Steps.{indicesBy, Reducible, Reduces}
-use Rattle.solver.proofs.Rows.{Sizes, n-most, row-is}
+use Rattle.solver.proofs.Rows.{Sizes, n-most}
 use Rattle.jobs.proofs.WithBounds.{same-length, same-equations, variable-with, lawful-with}
 use Rattle.solver.proofs.Stepping as stepping
 
@@ -34,7 +34,7 @@ pub record At (s : List ℕ) (n m : ℕ) (b : List Bounds) (k : ℕ) (groups : L
   pub bounded : BoundedBy b n
   pub below : k < m
   pub follows : stepping.Follows (withBounds (jobOf s) b) k groups runs
-  pub row : e ≡ equationFrom s (equationRow n k)
+  pub row : e ≡ equation (jobOf s) k
 
 module _ {s : List ℕ} {n m : ℕ} (z : Sizes s n m) (b : List Bounds) (o : BoundedBy b n) where
   abbrev job : Job
@@ -50,7 +50,7 @@ module _ {s : List ℕ} {n m : ℕ} (z : Sizes s n m) (b : List Bounds) (o : Bou
   m-is = ap length (same-equations (jobOf s) b) ∙ equations-of s ∙ sym (z .1 .1)
 
   lawful : LawfulJob job
-  lawful = lawful-with (jobOf s) b (lawful-job s (z .0)) (subst (BoundedBy b) (sym vars) o)
+  lawful = lawful-with (jobOf s) b (z .0 .job) (subst (BoundedBy b) (sym vars) o)
 
   -- before any equation
   pub follows-start : (groups : List ℕ) (runs : List Run) → Apart groups → Begins b n runs → stepping.Follows job 0 groups runs
@@ -83,7 +83,7 @@ module _ {s : List ℕ} {n m : ℕ} {b : List Bounds} {k : ℕ} {groups : List �
   below = omega (arith, a .below, m-is (a .sizes) b (a .bounded))
 
   is : e ≡ equation with k
-  is = row-is (a .sizes) k (a .below) e (a .row) ∙ ap (λ es. getD es k noEquation) (sym (same-equations (jobOf s) b))
+  is = a .row ∙ ap (λ es. getD es k noEquation) (sym (same-equations (jobOf s) b))
 
   pub limits : InLimits (form e)
   limits = stepping.limits with is-lawful k below groups runs (a .follows) e is

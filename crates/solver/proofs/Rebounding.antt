@@ -7,7 +7,8 @@ use lib.ListN.{length}
 use Rattle.lists.proofs.Places.{same-places}
 use Rattle.jobs.specs.Job.{jobOf, variableCount, variable, noVariable}
 use Rattle.jobs.specs.Lawful.{Lawful}
-use Rattle.jobs.specs.Bounds.{Bounds, withBounds, BoundedBy}
+use Rattle.jobs.specs.declared.Bounds.{Bounds}
+use Rattle.jobs.specs.Bounds.{withBounds, BoundedBy}
 use Rattle.jobs.proofs.JobOf.{variables-of}
 use Rattle.jobs.proofs.WithBounds.{same-length, same-equations, variable-with}
 use Rattle.solver.specs.Bounds.{BoundsOf}

@@ -6,7 +6,8 @@ use Rattle.runs.specs.declared.Run.{Run}
 use Rattle.runs.specs.Run.{empty, full}
 use Rattle.runs.specs.Search.{meet}
 use Rattle.jobs.specs.Job.{jobOf, variable}
-use Rattle.jobs.specs.Bounds.{Bounds, noBounds}
+use Rattle.jobs.specs.declared.Bounds.{Bounds}
+use Rattle.jobs.specs.Bounds.{noBounds}
 use Rattle.families.specs.Model.{interval}
 use Rattle.solver.specs.Arrays.{Holds}
 

@@ -10,8 +10,7 @@ ghost use Rattle.lists.specs.Table.{upTo};
 ghost use Rattle.jobs.specs.Job.{jobOf, variableCount, equationCount};
 ghost use Rattle.jobs.specs.Lawful.{Lawful};
 ghost use Rattle.solver.specs.Groups.{Apart, Labelled, Lowest, Merges, Labels};
-ghost use Rattle.solver.specs.Arrays.{Holds};
-ghost use Rattle.solver.specs.Choices.{groupIn};
+ghost use Rattle.solver.specs.Arrays.{groupIn, Holds};
 ghost use Rattle.families.specs.Plan.{componentBy};
 use jobs::Equation;
 

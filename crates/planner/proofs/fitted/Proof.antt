@@ -58,7 +58,7 @@ module _ (c : tie.After-count) where
   whole = omega (arith, vars job n m n-is m-is, g-is)
 
 length-requires : tie.Need-length-requires
-length-requires c κs = let n-small : n c ≤ 256 = omega (arith, n-is c, start c .pre .0 .header .variables) in (n-small, omega (arith, n-small, g-is c, vars (job c) (n c) (m c) (n-is c) (m-is c), length-leads (jobOf (job c))))
+length-requires c κs = let n-small : n c ≤ 256 = omega (arith, n-is c, start c .pre .0 .rows .variables) in (n-small, omega (arith, n-small, g-is c, vars (job c) (n c) (m c) (n-is c) (m-is c), length-leads (jobOf (job c))))
 
 returns : tie.Need-returns
 returns c = let k = c .before .before in let (p, q) = too-short (job k) (start k .args .area .now) (start k .pre .1) (omega (arith, c .before .length .ensures, whole k, c .if1 .taken)) in (sym p, sym q)

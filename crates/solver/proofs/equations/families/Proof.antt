@@ -15,7 +15,8 @@ use Rattle.jobs.specs.Lawful.{Lawful}
 use Rattle.families.specs.Model.{kept}
 use Rattle.solver.specs.declared.equations.Kept.{Kept}
 use Rattle.solver.specs.declared.equations.Kept.the-variants.{All, At as At-indices}
-use Rattle.jobs.specs.Bounds.{Bounds, withBounds, BoundedBy}
+use Rattle.jobs.specs.declared.Bounds.{Bounds}
+use Rattle.jobs.specs.Bounds.{withBounds, BoundedBy}
 use Rattle.solver.specs.Bounds.{Begins}
 use Rattle.solver.specs.Steps.{keptBy}
 use Rattle.solver.proofs.Rows.{Sizes, n-most, row-asked, left-below, right-below}

@@ -8,7 +8,7 @@ use borrow.Author.Needs.{needs}
 use lib.ListN.{length, getD}
 use Rattle.jobs.specs.Job.{jobOf, equation}
 use Rattle.solver.specs.Groups.{Labelled, Merges, Labels}
-use Rattle.solver.proofs.Rows.{n-most, row-asked, row-is, left-below, right-below}
+use Rattle.solver.proofs.Rows.{n-most, row-asked, left-below, right-below}
 use Rattle.solver.proofs.Joining.{same-label}
 use Rattle.solver.proofs.Stepping.{labels-start, labels-le, labels-joined, labels-same}
 use Rattle.solver.proofs.groups.lowest.Statement.{statement}
@@ -52,7 +52,7 @@ module _ (c : tie.After-read Inv-loop μ-loop) where
   right-in = right-below (s .pre) k k-below (c .read .result) (c .read .ensures)
 
   is : c .read .result ≡ equation (jobOf (s .args .job .now)) k
-  is = row-is (s .pre) k k-below (c .read .result) (c .read .ensures)
+  is = c .read .ensures
 
   labels : Labels (jobOf (s .args .job .now)) k (s .args .n) groups
   labels = c .before .before .loop .inv .1 .1

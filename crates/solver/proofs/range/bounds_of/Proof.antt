@@ -9,17 +9,18 @@ use mir.Val.{SFits}
 use mir.Facts.{toZ-ofZ}
 use Rattle.ints.proofs.Signed.{held}
 use Rattle.jobs.specs.declared.Variable.{Variable}
-use Rattle.jobs.specs.Job.{variableAt}
-use Rattle.jobs.specs.Bounds.{Bounds, noBounds}
+use Rattle.jobs.specs.Job.{jobOf, variable}
+use Rattle.jobs.specs.declared.Bounds.{Bounds}
+use Rattle.jobs.specs.Bounds.{noBounds}
 use Rattle.solver.proofs.Passes.{Filled, unfilled, filled}
 use Rattle.solver.proofs.range.bounds_of.Statement.{statement}
 use Rattle.solver.proofs.range.bounds_of.Tie as tie
 
 -- the bounds in row k
 abbrev boundsIn : List ℕ → ℕ → Bounds
-boundsIn s k = record { low = variableAt s k .low; high = variableAt s k .high }
+boundsIn s k = record { low = variable (jobOf s) k .low; high = variable (jobOf s) k .high }
 
-row : (s : List ℕ) (k : ℕ) (v : Variable) → v ≡ variableAt s k → SFits w64 (v .low) → SFits w64 (v .high) → _≡_ {A = Bounds} record { low = held (v .low); high = held (v .high) } (boundsIn s k)
+row : (s : List ℕ) (k : ℕ) (v : Variable) → v ≡ variable (jobOf s) k → SFits w64 (v .low) → SFits w64 (v .high) → _≡_ {A = Bounds} record { low = held (v .low); high = held (v .high) } (boundsIn s k)
 row s k v e f g = rw (toZ-ofZ f, toZ-ofZ g, e) refl
 
 abbrev Inv-loop : tie.InvT-loop
@@ -32,7 +33,7 @@ loop-holds : tie.Need-loop-holds Inv-loop μ-loop
 loop-holds c = (omega arith, unfilled noBounds (boundsIn _) _ (search needs))
 
 read-requires : tie.Need-read-requires Inv-loop μ-loop
-read-requires c κs = (omega arith, omega arith)
+read-requires c κs = (c .before .before .before .pre .0, omega arith)
 
 mul-bounds : tie.Need-mul-bounds Inv-loop μ-loop
 mul-bounds c = let l = c .before .before .before .loop in let h : l .i < 256 = omega arith in record { fits = omega (arith, h) }

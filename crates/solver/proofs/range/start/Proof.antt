@@ -11,7 +11,8 @@ use Rattle.runs.proofs.Clips.{full-form}
 use Rattle.runs.specs.Search.{meet}
 use Rattle.families.specs.Model.{interval}
 use Rattle.families.proofs.Begins.{interval-form}
-use Rattle.jobs.specs.Bounds.{Bounds, noBounds}
+use Rattle.jobs.specs.declared.Bounds.{Bounds}
+use Rattle.jobs.specs.Bounds.{noBounds}
 use Rattle.solver.proofs.Passes.{Filled, unfilled, filled}
 use Rattle.solver.proofs.range.start.Statement.{statement}
 use Rattle.solver.proofs.range.start.Tie as tie

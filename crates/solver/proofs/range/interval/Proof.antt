@@ -1,4 +1,4 @@
--- `Bounds::interval` meets its contract.
+-- `interval` meets its contract.
 use mathlib.Core.Path.{_≡_, refl, sym, _∙_, ap, ap₂}
 use mathlib.Core.Bool.{Bool, true, false}
 use Prim.Native.Nat.{ℕ, zero, suc, _<_}
@@ -16,10 +16,11 @@ use Rattle.runs.specs.declared.Run.{Run}
 use Rattle.runs.specs.Run.{empty}
 use Rattle.runs.specs.Method.{progression}
 use Rattle.families.specs.Model.{interval}
-use Rattle.jobs.specs.Bounds.{Bounds, Bounded}
+use Rattle.jobs.specs.declared.Bounds.{Bounds}
+use Rattle.jobs.specs.Bounds.{Bounded}
 use Rattle.solver.proofs.Sizes.{fits}
-use Rattle.solver.proofs.Bounds.interval.Statement.{statement}
-use Rattle.solver.proofs.Bounds.interval.Tie as tie
+use Rattle.solver.proofs.range.interval.Statement.{statement}
+use Rattle.solver.proofs.range.interval.Tie as tie
 
 module _ (b : Bounds) (w : Bounded b) where
   fits-low : SFits w64 (b .low)
@@ -91,24 +92,24 @@ empty-requires : tie.Need-empty-requires
 empty-requires c κs = search needs
 
 returns : tie.Need-returns
-returns c = let s = c .before .before .before .before in none (s .args .self) (s .pre) (c .empty .result) (c .empty .ensures) (c .before .if1 .taken)
+returns c = let s = c .before .before .before .before in none (s .args .b) (s .pre) (c .empty .result) (c .empty .ensures) (c .before .if1 .taken)
 
 sub-t3 : tie.Need-sub-t3
-sub-t3 c = let s = c .before .before .before .before .before .before .before .before in way (s .args .self) (s .pre)
+sub-t3 c = let s = c .before .before .before .before .before .before .before .before in way (s .args .b) (s .pre)
 
 add-t4 : tie.Need-add-t4
-add-t4 c = let s = c .before .before .before .before .before .before .before .before in many (s .args .self) (s .pre)
+add-t4 c = let s = c .before .before .before .before .before .before .before .before in many (s .args .b) (s .pre)
 
 cast-t5 : tie.Need-cast-t5
-cast-t5 c = let s = c .before .before .before .before .before .before .before .before in cast-asked (s .args .self) (s .pre) (c .before .before .before .before .before .if1 .left) (c .before .before .if2 .taken)
+cast-t5 c = let s = c .before .before .before .before .before .before .before .before in cast-asked (s .args .b) (s .pre) (c .before .before .before .before .before .if1 .left) (c .before .before .if2 .taken)
 
 returns-2 : tie.Need-returns-2
 returns-2 c =
     let s = c .before .before .before .before .before .before .before .before .before in
-    result (s .args .self) (s .pre) (c .before .before .before .before .before .before .if1 .left) (c .before .before .before .if2 .taken)
+    result (s .args .b) (s .pre) (c .before .before .before .before .before .before .if1 .left) (c .before .before .before .if2 .taken)
 
 returns-3 : tie.Need-returns-3
-returns-3 c = let s = c .before .before .before .before .before .before .before in one (s .args .self) (s .pre) (c .before .before .before .before .if1 .left) (c .before .if2 .left)
+returns-3 c = let s = c .before .before .before .before .before .before .before in one (s .args .b) (s .pre) (c .before .before .before .before .if1 .left) (c .before .if2 .left)
 
 pub interval-spec : {M : Type 1} → statement M
 interval-spec = tie.close (tie.spec empty-requires returns sub-t3 add-t4 cast-t5 returns-2 returns-3)
