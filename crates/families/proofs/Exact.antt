@@ -8,8 +8,7 @@ use lib.ListN.{length, getD, List·getD-eq-default}
 use Rattle.ints.proofs.{ℤ, pos, _+ℤ_, _-ℤ_, _*ℤ_, _<ℤ_, arith, lin, facts}
 use Rattle.lists.specs.Members.{_∈_}
 use Rattle.lists.specs.Table.{table}
-use Rattle.lists.proofs.Places.{same-places}
-use Rattle.lists.proofs.Table.{length-table, table-at}
+use Rattle.lists.proofs.Table.{length-table, table-at, same-table}
 use Rattle.runs.specs.declared.Run.{Run}
 use Rattle.runs.specs.Run.{nth, empty}
 use Rattle.runs.proofs.Members.{same-run}
@@ -39,13 +38,6 @@ advance-few : (xs : List (List ℤ)) (i : ℕ) → length xs ≤ 1 → advance x
 advance-few [] i h = refl
 advance-few (x ∷ []) i h = refl
 advance-few (x ∷ y ∷ zs) i h = absurd (omega arith)
-
--- two tables with the same at each place
-pub same-table : {A : Type 0} (d : A) (f g : ℕ → A) {m n : ℕ} → m ≡ n → ((i : ℕ) → i < m → f i ≡ g i) → table f m ≡ table g n
-same-table d f g {m} {n} e same = same-places d (table f m) (table g n) (length-table f m ∙ e ∙ sym (length-table g n)) (λ i h. at i (omega (arith, h, length-table f m)))
-  where
-    at : (i : ℕ) → i < m → getD (table f m) i d ≡ getD (table g n) i d
-    at i h = table-at f m i d h ∙ same i h ∙ sym (table-at g n i d (omega (arith, e, h)))
 
 -- base, step and fits of a group's own job c, at variable i
 abbrev pub readOff : Job → ℕ → Run

@@ -13,7 +13,7 @@ use borrow.Author.Tests.{eq-eqb, ne-eqb}
 use Rattle.ints.specs.Within.{Within}
 use Rattle.ints.proofs.{ℤ, pos, _+ℤ_, _*ℤ_, _<ℤ_, arith}
 use Rattle.lists.specs.Members.{_∈_}
-use Rattle.lists.proofs.Table.{table-at}
+use Rattle.lists.proofs.Table.{table-at, same-table}
 use Rattle.runs.specs.Run.{bound}
 use Rattle.families.specs.FamilyRun.{FamilyRun}
 use Rattle.jobs.specs.Bytes.{u16}
@@ -34,7 +34,7 @@ use Rattle.jobs.proofs.Fields.{number-back, base-back, step-back, fits-back, ch
 use Rattle.jobs.proofs.Promises.{optimal-best, number-within, planned-when, lawful-of, gives-fits}
 use Rattle.families.specs.Family.{member, IsFamily}
 use Rattle.families.proofs.Sizes.{first-within, step-within, many-within}
-use Rattle.families.proofs.Exact.{same-table, readOff, family-run-is, family-form, are-families}
+use Rattle.families.proofs.Exact.{readOff, family-run-is, family-form, are-families}
 use Rattle.families.proofs.Choices.{choice-below, member-solution, solution-member, members-once}
 use Rattle.families.proofs.Wholes.{objective-own, objective-inside}
 use Rattle.families.proofs.Plans.{choice-in, best-at}

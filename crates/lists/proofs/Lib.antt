@@ -8,6 +8,10 @@ pub mod Places
 pub mod Rising
 pub mod Keep
 pub mod Table
+-- how many numbers below n pass a test, counted one by one
+pub mod Counting
+-- a pass over an array, place by place
+pub mod ArrayPass
 pub mod Range
 pub mod Lexicographic
 -- the first best is a member, beats every other, and is the only one that does

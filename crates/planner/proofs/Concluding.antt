@@ -31,7 +31,7 @@ use Rattle.families.specs.Plan.{leadsBy, componentBy, headerRow, variableRow, g
 use Rattle.families.proofs.Exact.{family-run-is, family-form}
 use Rattle.families.proofs.Planned.{leads-by, empty-by, worth-by, laid-by}
 use Rattle.solver.specs.declared.State.{State}
-use Rattle.solver.specs.Analysis.{Families}
+use Rattle.solver.specs.Families.{Families}
 use Rattle.planner.specs.Area.{over}
 use Rattle.solver.specs.Groups.{Labelled, Lowest}
 use Rattle.solver.specs.Arrays.{groupIn, runIn}

@@ -5,13 +5,13 @@ use Prim.Native.Nat.{ℕ, _≤_, _<_}
 use lib.ListN.{length, getD}
 use lib.IntN.{ℤ, pos, _+ℤ_, _*ℤ_}
 use Rattle.lists.specs.Sums.{sum}
-use Rattle.lists.specs.Table.{table, upTo}
+use Rattle.lists.specs.Table.{table, upTo, Tabulates}
 use Rattle.runs.specs.declared.Run.{Run}
 use Rattle.families.specs.FamilyRun.{FamilyRun}
 use Rattle.jobs.specs.Job.{Job, variable}
 use Rattle.families.specs.Family.{choice}
 use Rattle.families.specs.Plan.{leadsBy, componentBy, headerRow, variableRow, groupRow, gainBy}
-use Rattle.solver.specs.Arrays.{groupIn, runIn, Holds}
+use Rattle.solver.specs.Arrays.{groupIn, runIn}
 use Rattle.planner.specs.declared.choose.Found.{Found}
 use Rattle.planner.specs.declared.choose.Found.the-variants.{At, Nothing}
 
@@ -30,7 +30,7 @@ FirstEmpty runs n Nothing = NoneEmpty runs n
 
 -- ---- what is made of them
 abbrev pub Gains : Job → List ℕ → List Run → ℕ → List ℤ → Type 0
-Gains j groups runs = Holds (pos 0) (gainBy j (groupIn groups) (runIn runs))
+Gains j groups runs = Tabulates (pos 0) (gainBy j (groupIn groups) (runIn runs))
 
 -- a variable's number, where a step along its group's family gains so much
 abbrev pub numberAt : Run → ℤ → ℤ

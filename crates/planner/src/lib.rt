@@ -13,7 +13,7 @@ ghost use Rattle.jobs.specs.Verdict.{planned, verdict};
 ghost use Rattle.jobs.specs.Sheet.{sheet};
 ghost use Rattle.jobs.specs.Demands.{TurnsAway, GivesFits, CannotBeBettered};
 ghost use Rattle.jobs.specs.Lawful.{Lawful};
-ghost use Rattle.solver.specs.Analysis.{Families};
+ghost use Rattle.solver.specs.Families.{Families};
 ghost use Rattle.planner.specs.Choices.{NoneEmpty};
 ghost use Rattle.planner.specs.Outcome.{verdictOf, worthOfBest, sheetOfBest};
 use choose::Found;

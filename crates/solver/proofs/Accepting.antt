@@ -19,12 +19,13 @@ use Rattle.jobs.proofs.Faults.{sound-iff}
 use Rattle.jobs.specs.Lawful.{Lawful}
 use Rattle.jobs.proofs.JobOf.{variables-of, equations-of}
 use Rattle.jobs.proofs.Lawful.{lawful}
-use Rattle.solver.specs.Analysis.{State, Families}
+use Rattle.solver.specs.Families.{Families}
+use Rattle.solver.specs.declared.State.{State}
 use Rattle.jobs.specs.declared.Bounds.{Bounds}
 use Rattle.jobs.specs.Bounds.{withBounds, BoundedBy}
 use Rattle.solver.specs.Bounds.{BoundsOf}
 use Rattle.solver.specs.Groups.{Labels}
-use Rattle.solver.proofs.Rebounding.{own-bounds, own-bounded}
+use Rattle.solver.proofs.OwnBounds.{own-bounds, own-bounded}
 
 -- it is lawful
 pub accepts : (s : List ℕ) (c : Checked) → ChecksExactly s (answerOf c) → c ≡ Accepted → Lawful s
@@ -43,12 +44,12 @@ module _ (s : List ℕ) (n m : ℕ) (p : n ≡ variableCount s) (q : m ≡ equat
       same : (i : ℕ) → i ∈ upTo n → eqb (getD groups i 0) i ≡ eqb (lowest (jobOf s) i) i
       same i h = ap (λ l. eqb l i) (a .at i (in-upTo n i .0 h) ∙ ap (λ m. lowestBy (jobOf s) m i) (q ∙ sym (equations-of s)))
 
-  module _ (bounds : List Bounds) (b : BoundsOf s n bounds) where
-    own : BoundsOf s (variableCount s) bounds
-    own = subst (λ n. BoundsOf s n bounds) p b
+  module _ (bounds : List Bounds) (b : BoundsOf (jobOf s) n bounds) where
+    own : BoundsOf (jobOf s) (length (jobOf s .variables)) bounds
+    own = subst (λ n. BoundsOf (jobOf s) n bounds) vars b
 
     pub bounded : Lawful s → BoundedBy bounds n
-    bounded f = subst (BoundedBy bounds) (sym p) (own-bounded s bounds f own)
+    bounded f = subst (BoundedBy bounds) (sym vars) (own-bounded (jobOf s) bounds own (f .job))
 
     pub families : (x : State) → Families (withBounds (jobOf s) bounds) x → Families (jobOf s) x
-    families x f = subst (λ j. Families j x) (own-bounds s bounds own) f
+    families x f = subst (λ j. Families j x) (own-bounds (jobOf s) bounds own) f

@@ -18,7 +18,7 @@ use Rattle.jobs.specs.Component.{lowest}
 use Rattle.jobs.specs.Family.{familyRun}
 use Rattle.families.specs.Model.{Indices as Pair, interval, kept}
 use Rattle.solver.specs.declared.join.Indices.{Indices}
-use Rattle.solver.specs.Analysis.{Families}
+use Rattle.solver.specs.Families.{Families}
 use Rattle.jobs.specs.declared.Bounds.{Bounds}
 use Rattle.jobs.specs.Bounds.{withBounds, BoundedBy}
 use Rattle.solver.specs.Bounds.{Begins}

@@ -1,11 +1,7 @@
 -- The laws that the proofs of the functions go by.
 
--- a pass over an array
-pub mod Passes
 -- two labels that become one
 pub mod Merging
--- how many numbers pass a test
-pub mod Counting
 -- whether an equation joins two sets
 pub mod Joining
 -- the lowest variables of the groups, one after the other
@@ -16,8 +12,8 @@ pub mod Sizes
 pub mod Meeting
 -- the arrays follow the model
 pub mod Stepping
--- a job with other bounds
-pub mod Rebounding
+-- a job with its own bounds
+pub mod OwnBounds
 -- the rows of a lawful job
 pub mod Rows
 -- the arrays follow the model, for bytes and bounds

@@ -3,13 +3,13 @@ use mathlib.Core.Path.{_≡_}
 use mathlib.Core.List.{List}
 use Prim.Native.Nat.{ℕ, _≤_, _<_}
 use lib.ListN.{getD}
-use Rattle.solver.specs.Arrays.{Holds}
+use Rattle.lists.specs.Table.{Tabulates}
 use Rattle.jobs.specs.Job.{Job}
 use Rattle.jobs.specs.Component.{merged, lowestBy}
 
 -- each variable in a group of its own
 abbrev pub Apart : List ℕ → Type 0
-Apart = Holds 0 (λ i. i) 256
+Apart = Tabulates 0 (λ i. i) 256
 
 -- a label is the lowest of its group, and so not above the variable
 pub record Labelled (groups : List ℕ) (n : ℕ) : Type 0 where
@@ -22,8 +22,8 @@ pub record Lowest (groups : List ℕ) (n : ℕ) : Type 0 where
 
 -- the groups l and r have become one
 abbrev pub Merges : List ℕ → ℕ → ℕ → ℕ → List ℕ → Type 0
-Merges groups l r = Holds 0 (λ i. merged l r (getD groups i 0))
+Merges groups l r = Tabulates 0 (λ i. merged l r (getD groups i 0))
 
 -- the lowest variables that the first m equations of a job join to its variables
 abbrev pub Labels : Job → ℕ → ℕ → List ℕ → Type 0
-Labels j m = Holds 0 (lowestBy j m)
+Labels j m = Tabulates 0 (lowestBy j m)

@@ -1,10 +1,10 @@
 -- What the contracts of the solver cite. Read in this order.
 
--- what an array holds
+-- what the arrays of the state say
 pub mod Arrays
 -- what is promised of the state: each variable's group and family
-pub mod Analysis
--- the job with other bounds
+pub mod Families
+-- the variables' rows in arrays, and what the variables begin with
 pub mod Bounds
 -- groups as a list of labels
 pub mod Groups

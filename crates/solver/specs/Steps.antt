@@ -7,7 +7,7 @@ use Rattle.runs.specs.declared.Run.{Run}
 use Rattle.runs.specs.Run.{empty}
 use Rattle.families.specs.FamilyRun.{FamilyRun}
 use Rattle.families.specs.Model.{Indices as Pair, runAfter}
-use Rattle.solver.specs.Arrays.{Holds}
+use Rattle.lists.specs.Table.{Tabulates}
 use Rattle.solver.specs.declared.cycle.Remains.{Remains}
 use Rattle.solver.specs.declared.cycle.Remains.the-variants.{All, At}
 use Rattle.solver.specs.declared.join.Indices.{Indices}
@@ -31,4 +31,4 @@ pub record Reducible (runs : List Run) (groups : List ℕ) (l r : ℕ) (i : Indi
   pub after : (k : ℕ) → k < n → FamilyRun (runAfter l r (indicesBy i) (getD groups k 0) (getD runs k empty))
 
 abbrev pub Reduces : List Run → List ℕ → ℕ → ℕ → Indices → ℕ → List Run → Type 0
-Reduces runs groups l r i = Holds empty (λ k. runAfter l r (indicesBy i) (getD groups k 0) (getD runs k empty))
+Reduces runs groups l r i = Tabulates empty (λ k. runAfter l r (indicesBy i) (getD groups k 0) (getD runs k empty))

@@ -7,7 +7,7 @@ ghost use Rattle.families.specs.FamilyRun.{FamilyRun};
 ghost use Rattle.jobs.specs.Job.{jobOf, variableCount, equationCount};
 ghost use Rattle.jobs.specs.Lawful.{Lawful};
 ghost use Rattle.families.specs.Model.{kept, runAfter};
-ghost use Rattle.solver.specs.Analysis.{Families};
+ghost use Rattle.solver.specs.Families.{Families};
 ghost use Rattle.jobs.specs.Bounds.{withBounds, BoundedBy};
 ghost use Rattle.solver.specs.Groups.{Labelled};
 ghost use Rattle.solver.specs.Steps.{keptBy, indicesBy, Reducible, Reduces};

@@ -6,11 +6,11 @@ ghost use Prim.Native.Nat.{_≤_, _<_, min};
 ghost use lib.Dec.{eqb};
 ghost use lib.ListN.{length, getD};
 ghost use Rattle.lists.specs.Keep.{keep};
-ghost use Rattle.lists.specs.Table.{upTo};
+ghost use Rattle.lists.specs.Table.{upTo, Tabulates};
 ghost use Rattle.jobs.specs.Job.{jobOf, variableCount, equationCount};
 ghost use Rattle.jobs.specs.Lawful.{Lawful};
 ghost use Rattle.solver.specs.Groups.{Apart, Labelled, Lowest, Merges, Labels};
-ghost use Rattle.solver.specs.Arrays.{groupIn, Holds};
+ghost use Rattle.solver.specs.Arrays.{groupIn};
 ghost use Rattle.families.specs.Plan.{componentBy};
 use jobs::Equation;
 
@@ -119,7 +119,7 @@ pub fn count(groups: [u16; 256], n: usize) -> usize
 pub fn numbers(groups: [u16; 256], n: usize) -> [u16; 256]
     requires { ⌜ n ≤ 256 ⌝ }
     requires { ⌜ Lowest groups n ⌝ }
-    ensures { λ r. ⌜ Holds 0 (componentBy (groupIn groups) n) n r ⌝ }
+    ensures { λ r. ⌜ Tabulates 0 (componentBy (groupIn groups) n) n r ⌝ }
 {
     let mut numbers: [u16; 256] = [0; 256];
     let mut next: u16 = 0;

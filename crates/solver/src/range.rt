@@ -1,13 +1,11 @@
-//! Bounds, and what every variable can be before any equation.
+//! What every variable can be before any equation: the numbers within its bounds.
 
 ghost use mathlib.Core.Path.{_≡_};
 ghost use Prim.Native.Nat.{_≤_};
-ghost use Rattle.jobs.specs.Job.{RowsInside, variableCount};
 ghost use Rattle.families.specs.Model.{interval};
 ghost use Rattle.jobs.specs.Bounds.{Bounded, BoundedBy};
-ghost use Rattle.solver.specs.Bounds.{BoundsOf, Begins};
+ghost use Rattle.solver.specs.Bounds.{Begins};
 use jobs::Bounds;
-use jobs::Variable;
 use runs::Run;
 
 // All numbers from low to high.
@@ -30,25 +28,6 @@ fn interval(b: Bounds) -> Run
         step: 0,
         many: 1,
     }
-}
-
-// The bounds in the rows of a job's n variables.
-pub fn bounds_of(job: &[u8], n: usize) -> [Bounds; 256]
-    requires { ⌜ RowsInside (now job) ⌝ }
-    requires { ⌜ n ≡ variableCount (now job) ⌝ }
-    ensures { λ r. ⌜ BoundsOf (now (job .entry)) n r ⌝ }
-{
-    let mut bounds: [Bounds; 256] = [Bounds { low: 0, high: 0 }; 256];
-    let mut i: usize = 0;
-    while i < n {
-        let v = Variable::read(job, i);
-        bounds[i] = Bounds {
-            low: v.low,
-            high: v.high,
-        };
-        i += 1;
-    }
-    bounds
 }
 
 // The full range, met with the bounds of each of n variables.

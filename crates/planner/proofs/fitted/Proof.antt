@@ -11,7 +11,7 @@ use Rattle.jobs.specs.Component.{componentCount}
 use Rattle.jobs.specs.Verdict.{planned, verdict}
 use Rattle.jobs.proofs.Components.{length-leads}
 use Rattle.solver.specs.declared.State.{State}
-use Rattle.solver.specs.Analysis.{Families}
+use Rattle.solver.specs.Families.{Families}
 use Rattle.planner.specs.Choices.{FirstEmpty}
 use Rattle.jobs.proofs.Outcomes.{too-short, no-fit, best-fit}
 use Rattle.solver.proofs.Accepting.{vars, counted, bounded, families}

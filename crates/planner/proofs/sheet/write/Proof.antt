@@ -8,12 +8,11 @@ use native.Mathlib.Omega.{arith}
 use lib.ListN.{length, drop, length-take, length-drop}
 use lib.IntN.{ℤ}
 use mir.Facts.{toZ-ofZ}
-use Rattle.lists.specs.Table.{table}
+use Rattle.lists.specs.Table.{table, Tabulates}
 use Rattle.lists.proofs.Table.{table-at}
 use Rattle.runs.specs.declared.Run.{Run}
 use Rattle.families.specs.Plan.{leadsBy, componentBy, headerRow}
 use Rattle.planner.specs.Area.{over}
-use Rattle.solver.specs.Arrays.{Holds}
 use Rattle.solver.specs.Arrays.{groupIn}
 use Rattle.planner.specs.Choices.{variableRowsOf, groupRowsOf, sheetOf}
 use Rattle.solver.proofs.Leads.{leads-length}
@@ -24,7 +23,7 @@ use Rattle.planner.proofs.sheet.write.Tie as tie
 
 module _ (groups : List ℕ) (runs : List Run) (gains : List ℤ) (n g : ℕ) (worth : ℤ) (q : g ≡ length (leadsBy (groupIn groups) n)) where
   -- the numbers that are found are those of the definition
-  numbered : (numbers : List ℕ) → Holds 0 (componentBy (groupIn groups) n) n numbers →
+  numbered : (numbers : List ℕ) → Tabulates 0 (componentBy (groupIn groups) n) n numbers →
       variableRowsOf groups runs gains numbers n ≡ variableRowsOf groups runs gains (table (componentBy (groupIn groups) n) n) n
   numbered numbers h =
       variables-same groups runs gains numbers (table (componentBy (groupIn groups) n) n) n
@@ -38,7 +37,7 @@ module _ (groups : List ℕ) (runs : List Run) (gains : List ℤ) (n g : ℕ) (w
   second-long numbers l₁ l₂ h e = ap length e ∙ length-over 24 (variableRowsOf groups runs gains numbers n) l₁ (omega (arith, length-variables groups runs gains numbers n))
 
   -- l₁, l₂ and l₃ are the area after the header, after the variables' rows, and the part with the groups' rows
-  whole : (numbers a l₁ l₂ l₃ : List ℕ) → 24 + 16 * n + 16 * g ≤ length a → Holds 0 (componentBy (groupIn groups) n) n numbers → l₁ ≡ over 0 (headerRow n g worth) a →
+  whole : (numbers a l₁ l₂ l₃ : List ℕ) → 24 + 16 * n + 16 * g ≤ length a → Tabulates 0 (componentBy (groupIn groups) n) n numbers → l₁ ≡ over 0 (headerRow n g worth) a →
       l₂ ≡ over 24 (variableRowsOf groups runs gains numbers n) l₁ → length l₂ ≡ length a → l₃ ≡ over 0 (groupRowsOf groups runs gains n) (midOf (24 + 16 * n) (length l₂ - (24 + 16 * n)) l₂) →
       putMid (24 + 16 * n) (length l₂ - (24 + 16 * n)) l₂ l₃ ≡ over 0 (sheetOf groups runs gains n worth) a
   unfolding sheetOf

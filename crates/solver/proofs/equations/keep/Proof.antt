@@ -12,7 +12,7 @@ use Rattle.families.specs.Model.{runAfter}
 use Rattle.solver.specs.Groups.{Labelled}
 use Rattle.solver.specs.declared.join.Indices.{Indices}
 use Rattle.solver.specs.Steps.{indicesBy}
-use Rattle.solver.proofs.Passes.{Passed, begin, write}
+use Rattle.lists.proofs.ArrayPass.{Passed, begin, write}
 use Rattle.solver.proofs.equations.keep.Statement.{statement}
 use Rattle.solver.proofs.equations.keep.Tie as tie
 

@@ -3,7 +3,7 @@ use mathlib.Core.Path.{refl}
 use Prim.Native.Nat.{_-_, _≤_}
 use native.Mathlib.Omega.{arith}
 use borrow.Author.Needs.{needs}
-use Rattle.solver.proofs.Passes.{Filled, unfilled, filled}
+use Rattle.lists.proofs.ArrayPass.{Filled, unfilled, filled}
 use Rattle.solver.proofs.groups.apart.Statement.{statement}
 use Rattle.solver.proofs.groups.apart.Tie as tie
 

@@ -9,7 +9,7 @@ use borrow.Author.Needs.{needs}
 use borrow.Author.Tests.{eq-eqb, ne-eqb}
 use lib.Dec.{eqb}
 use lib.ListN.{getD}
-use Rattle.solver.proofs.Counting.{left, left-all, left-yes, left-no, left-none}
+use Rattle.lists.proofs.Counting.{left, left-all, left-yes, left-no, left-none}
 use Rattle.solver.proofs.groups.count.Statement.{statement}
 use Rattle.solver.proofs.groups.count.Tie as tie
 

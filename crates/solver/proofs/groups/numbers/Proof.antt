@@ -9,7 +9,7 @@ use lib.ListN.{length, getD, set, length-append}
 use Rattle.families.specs.Plan.{leadsBy, componentBy}
 use Rattle.solver.specs.Arrays.{groupIn}
 use Rattle.solver.specs.Groups.{Lowest}
-use Rattle.solver.proofs.Passes.{Filled, unfilled, filled}
+use Rattle.lists.proofs.ArrayPass.{Filled, unfilled, filled}
 use Rattle.solver.proofs.Leads.{leads-none, leads-yes, leads-no, leads-length, component-lead, component-same}
 use Rattle.solver.proofs.groups.numbers.Statement.{statement}
 use Rattle.solver.proofs.groups.numbers.Tie as tie

@@ -8,7 +8,7 @@ use borrow.Author.Needs.{needs}
 use lib.ListN.{getD}
 use Rattle.jobs.specs.Component.{merged}
 use Rattle.solver.specs.Groups.{Labelled}
-use Rattle.solver.proofs.Passes.{Passed, begin, write, skip}
+use Rattle.lists.proofs.ArrayPass.{Passed, begin, write, skip}
 use Rattle.solver.proofs.Merging.{merged-high, merged-rest}
 use Rattle.solver.proofs.groups.renamed.Statement.{statement}
 use Rattle.solver.proofs.groups.renamed.Tie as tie

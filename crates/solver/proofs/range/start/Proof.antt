@@ -13,7 +13,7 @@ use Rattle.families.specs.Model.{interval}
 use Rattle.families.proofs.Begins.{interval-form}
 use Rattle.jobs.specs.declared.Bounds.{Bounds}
 use Rattle.jobs.specs.Bounds.{noBounds}
-use Rattle.solver.proofs.Passes.{Filled, unfilled, filled}
+use Rattle.lists.proofs.ArrayPass.{Filled, unfilled, filled}
 use Rattle.solver.proofs.range.start.Statement.{statement}
 use Rattle.solver.proofs.range.start.Tie as tie
 
