@@ -9,7 +9,6 @@ use native.Mathlib.Omega.{arith}
 use lib.ListN.{length, drop}
 use Rattle.lists.specs.Members.{_∈_}
 use Rattle.lists.proofs.Maps.{same-values}
-use Rattle.runs.specs.declared.Run.{Run}
 use Rattle.jobs.specs.Job.{Job, jobOf}
 use Rattle.jobs.specs.Layout.{sheetLength}
 use Rattle.jobs.specs.Faults.{Answer, accepted, checked}
@@ -18,8 +17,7 @@ use Rattle.jobs.specs.Verdict.{Verdict, planned, noFit, refused, outcome, short
 use Rattle.jobs.specs.Sheet.{laidOut, areaAfter, sheet}
 use Rattle.jobs.proofs.Faults.{accepted-none, fault-none}
 use Rattle.jobs.proofs.Outcomes.{too-short}
-use Rattle.families.specs.Model.{groupAt, runAt, families}
-use Rattle.families.specs.Plan.{emptyBy, worthBy, modelFindings, verdictBy, sheetBy}
+use Rattle.families.specs.Plan.{modelFindings, modelEmpty, verdictBy, sheetBy}
 use Rattle.families.specs.Vectors.{Worked, after, markedJobs}
 use Rattle.families.proofs.Planned.{verdict-by, sheet-by}
 
@@ -40,15 +38,9 @@ module _ (s : List ℕ) where
   abbrev j : Job
   j = jobOf s
 
-  abbrev g : ℕ → ℕ
-  g = groupAt (families j)
-
-  abbrev r : ℕ → Run
-  r = runAt (families j)
-
   -- what the model gives where the area is long enough, whatever stands in it
   abbrev modelVerdict : Verdict
-  modelVerdict = outcome none (emptyBy j g r) (worthBy j g r)
+  modelVerdict = outcome none (modelEmpty j) (modelFindings j .worth)
 
   abbrev modelBytes : List ℕ
   modelBytes = bytesFor modelVerdict (laidOut (modelFindings j))
@@ -56,7 +48,7 @@ module _ (s : List ℕ) where
   module _ (ok : checked s ≡ accepted) (area : List ℕ) where
     by-model : sheetLength j ≤ length area → verdictBy s area ≡ modelVerdict
     unfolding verdictBy
-    by-model h = ap (λ o. outcome o (emptyBy j g r) (worthBy j g r)) (fault-none s (short? j area) (accepted-none s ok) (λ l. omega arith))
+    by-model h = ap (λ o. outcome o (modelEmpty j) (modelFindings j .worth)) (fault-none s (short? j area) (accepted-none s ok) (λ l. omega arith))
 
     long-enough : sheetLength j ≤ length area → (verdict s area ≡ modelVerdict) × (sheet s area ≡ modelBytes ++ drop (length modelBytes) area)
     unfolding sheetBy

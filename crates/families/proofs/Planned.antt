@@ -34,10 +34,10 @@ use Rattle.jobs.specs.Lawful.{LawfulJob}
 use Rattle.jobs.proofs.Components.{in-leads, lead-in}
 use Rattle.jobs.proofs.Assembly.{none-without}
 use Rattle.jobs.proofs.Fields.{Agree, same-layout, if-planned, if-noFit, if-refused}
-use Rattle.jobs.proofs.Promises.{optimal-best, number-within as best-within, objective-within, fault, verdict-is, planned-when, lawful-of}
+use Rattle.jobs.proofs.Promises.{fault, verdict-is, planned-when, lawful-of}
 use Rattle.families.specs.Family.{choice}
 use Rattle.families.specs.Model.{groupAt, runAt, families}
-use Rattle.families.specs.Plan.{leadsBy, componentBy, emptyBy, gainBy, chosenBy, numberBy, worthBy, findingsBy, modelFindings, verdictBy, sheetBy}
+use Rattle.families.specs.Plan.{leadsBy, componentBy, emptyBy, gainBy, chosenBy, numberBy, worthBy, findingsBy, modelFindings, modelEmpty, verdictBy, sheetBy}
 use Rattle.families.proofs.Sizes.{step-within}
 use Rattle.families.proofs.Exact.{readOff, family-run-is, exact, family-form}
 use Rattle.families.proofs.Wholes.{objective-own}
@@ -64,84 +64,79 @@ module _ (j : Job) (lawful : LawfulJob j) (g : ℕ → ℕ) (r : ℕ → Run) (t
   many-by : (l : ℕ) → l ∈ leads j → r l .many ≡ fits (componentJob j l)
   many-by l m = let (b, e) = in-leads j l .0 m in ap (λ r. r .many) (run-by l b) ∙ ap (λ k. fits (componentJob j k)) e
 
-  pub empty-by : emptyBy j g r ≡ firstWithout j
+  pub empty-by : emptyBy (length (j .variables)) g r ≡ firstWithout j
   unfolding emptyBy firstWithout
   empty-by =
       ap (firstOf (λ l. equal? (r l .many) 0)) leads-by
       ∙ first-same (λ l. equal? (r l .many) 0) (λ l. equal? (fits (componentJob j l)) 0) (leads j) (λ l m. (λ e. sym (many-by l m) ∙ e, λ e. many-by l m ∙ e))
 
-  -- ---- the gains and the choices
-  abbrev weighed : ℕ → ℤ
-  weighed i = variable j i .weight *ℤ r i .step
+  -- ---- the gains and the choices, where w gives each variable's weight
+  module _ (w : ℕ → ℤ) (weights : (i : ℕ) → i < length (j .variables) → w i ≡ variable j i .weight) where
+    weighed : (i l : ℕ) → i < n → pick (eqb (g i) l) (w i *ℤ r i .step) ≡ pick (eqb (lowest j i) l) (variable j i .weight *ℤ r i .step)
+    weighed i l h = ap₂ (λ k x. pick (eqb k l) (x *ℤ r i .step)) (told i h .0) (weights i h)
 
-  pub gain-by : (l : ℕ) → gainBy j g r l ≡ slope (componentJob j l)
-  unfolding gainBy slope
-  gain-by l =
-      sum-ext n (λ i. pick (eqb (g i) l) (weighed i)) (λ i. pick (eqb (lowest j i) l) (weighed i)) (λ i h. ap (λ k. pick (eqb k l) (weighed i)) (told i h .0))
-      ∙ sym (objective-own j l (step (componentJob j l)) (λ i. r i .step) inside)
-    where
-      inside : (i : ℕ) → i < n → lowest j i ≡ l → number (step (componentJob j l)) i ≡ r i .step
-      inside i h e = ap (λ k. number (step (componentJob j k)) i) (sym e) ∙ ap (λ r. r .step) (sym (run-by i h))
-
-  choice-by : (l : ℕ) → l ∈ leads j → chosenBy j g r l ≡ choice (slope (componentJob j l)) (fits (componentJob j l))
-  unfolding chosenBy
-  choice-by l m = ap₂ choice (gain-by l) (many-by l m)
-
-  pub gain-within : (l : ℕ) → Within (length (j .variables) * (1000000 * (2 * bound))) (gainBy j g r l)
-  unfolding gainBy
-  gain-within l = sum-within n (1000000 * (2 * bound)) (λ i. pick (eqb (g i) l) (weighed i)) (λ i h. picked (eqb (g i) l) (weighed i) (within-mul (lawful .each-variable i h .weight) (size i h)))
-    where
-      size : (i : ℕ) → i < n → Within (2 * bound) (r i .step)
-      size i h = step-within (subst FamilyRun (sym (run-by i h)) (family-form j lawful i h))
-
-      picked : (t : Bool) {b : ℕ} (x : ℤ) → Within b x → Within b (pick t x)
-      picked true x w = w
-      picked false x w = record { size = omega arith }
-
-  -- ---- where no family is empty
-  module _ (full : emptyBy j g r ≡ none) where
-    fit-all : firstWithout j ≡ none
-    fit-all = sym empty-by ∙ full
-
-    fit : (l : ℕ) → l ∈ leads j → fits (componentJob j l) ≢ 0
-    fit = none-without j fit-all
-
-    pub chosen-by : (l : ℕ) → l ∈ leads j → chosenBy j g r l ≡ chosen (componentJob j l)
-    chosen-by l m = choice-by l m ∙ sym (choice-in j lawful fit l m)
-
-    pub number-by : (i : ℕ) → i < length (j .variables) → numberBy j g r i ≡ number (best j) i
-    unfolding numberBy
-    number-by i h =
-        ap₂ (λ r k. r .first +ℤ r .step *ℤ pos k) (run-by i h) (ap (chosenBy j g r) (told i h .0) ∙ chosen-by (lowest j i) (lead-in j i h))
-        ∙ sym (best-at j lawful fit i h)
-
-    pub worth-by : worthBy j g r ≡ objective j (best j)
-    unfolding worthBy objective
-    worth-by = sum-ext n _ _ (λ i h. ap (λ x. variable j i .weight *ℤ x) (number-by i h))
-
-    -- the numbers and the worth are those of a solution
-    pub number-within : (i : ℕ) → i < length (j .variables) → Within bound (numberBy j g r i)
-    number-within i h = subst (Within bound) (sym (number-by i h)) (best-within j lawful (best j) (optimal-best j lawful fit-all .solution) i h)
-
-    pub worth-within : Within (length (j .variables) * (1000000 * bound)) (worthBy j g r)
-    worth-within = subst (Within (n * (1000000 * bound))) (sym worth-by) (objective-within j lawful (best j) (optimal-best j lawful fit-all .solution))
-
-    -- so what is found is what the definitions find
-    pub findings-by : Agree (findingsBy j g r) (findings j)
-    findings-by = record {
-      variables = refl;
-      leading = leads-by;
-      numbers = component-by;
-      runs = λ i h. told i h .1;
-      values = number-by;
-      many = λ l m. ap (λ r. r .many) (told l (leads-below l m) .1);
-      choices = λ l m. chosen-by l (subst (λ ls. l ∈ ls) leads-by m);
-      gains = λ l m. gain-by l;
-      total = worth-by;
-    }
+    pub gain-by : (l : ℕ) → gainBy (length (j .variables)) w g r l ≡ slope (componentJob j l)
+    unfolding gainBy slope
+    gain-by l = sum-ext n _ _ (λ i h. weighed i l h) ∙ sym (objective-own j l (step (componentJob j l)) (λ i. r i .step) inside)
       where
-        leads-below : (l : ℕ) → l ∈ leadsBy g n → l < n
-        leads-below l m = in-leads j l .0 (subst (λ ls. l ∈ ls) leads-by m) .0
+        inside : (i : ℕ) → i < n → lowest j i ≡ l → number (step (componentJob j l)) i ≡ r i .step
+        inside i h e = ap (λ k. number (step (componentJob j k)) i) (sym e) ∙ ap (λ r. r .step) (sym (run-by i h))
+
+    -- ---- where no family is empty
+    module _ (full : firstWithout j ≡ none) where
+      fit : (l : ℕ) → l ∈ leads j → fits (componentJob j l) ≢ 0
+      fit = none-without j full
+
+      chosen-by : (l : ℕ) → l ∈ leads j → chosenBy n w g r l ≡ chosen (componentJob j l)
+      unfolding chosenBy
+      chosen-by l m = ap₂ choice (gain-by l) (many-by l m) ∙ sym (choice-in j lawful fit l m)
+
+      number-by : (i : ℕ) → i < n → numberBy n w g r i ≡ number (best j) i
+      unfolding numberBy
+      number-by i h =
+          ap₂ (λ r k. r .first +ℤ r .step *ℤ pos k) (run-by i h) (ap (chosenBy n w g r) (told i h .0) ∙ chosen-by (lowest j i) (lead-in j i h))
+          ∙ sym (best-at j lawful fit i h)
+
+      pub worth-by : worthBy (length (j .variables)) w g r ≡ objective j (best j)
+      unfolding worthBy objective
+      worth-by = sum-ext n _ _ (λ i h. ap₂ _*ℤ_ (weights i h) (number-by i h))
+
+      -- so what is found is what the definitions find
+      pub findings-by : Agree (findingsBy (length (j .variables)) w g r) (findings j)
+      findings-by = record {
+        variables = refl;
+        leading = leads-by;
+        numbers = component-by;
+        runs = λ i h. told i h .1;
+        values = number-by;
+        many = λ l m. ap (λ r. r .many) (told l (leads-below l m) .1);
+        choices = λ l m. chosen-by l (subst (λ ls. l ∈ ls) leads-by m);
+        gains = λ l m. gain-by l;
+        total = worth-by;
+      }
+        where
+          leads-below : (l : ℕ) → l ∈ leadsBy g n → l < n
+          leads-below l m = in-leads j l .0 (subst (λ ls. l ∈ ls) leads-by m) .0
+
+-- the gain of a group fits its field
+pub slope-within : (j : Job) → LawfulJob j → (l : ℕ) → Within (length (j .variables) * (1000000 * (2 * bound))) (slope (componentJob j l))
+unfolding gainBy
+slope-within j lawful l =
+    subst (Within (n * (1000000 * (2 * bound)))) (gain-by j lawful (lowest j) (familyRun j) (λ i h. (refl, refl)) (λ i. variable j i .weight) (λ i h. refl) l)
+    (sum-within n (1000000 * (2 * bound)) (λ i. pick (eqb (lowest j i) l) (term i)) (λ i h. picked (eqb (lowest j i) l) (term i) (within-mul (lawful .each-variable i h .weight) (size i h))))
+  where
+    n : ℕ
+    n = length (j .variables)
+
+    term : ℕ → ℤ
+    term i = variable j i .weight *ℤ familyRun j i .step
+
+    size : (i : ℕ) → i < n → Within (2 * bound) (familyRun j i .step)
+    size i h = step-within (subst FamilyRun (sym (family-run-is j i)) (family-form j lawful i h))
+
+    picked : (t : Bool) {b : ℕ} (x : ℤ) → Within b x → Within b (pick t x)
+    picked true x w = w
+    picked false x w = record { size = omega arith }
 
 -- ---- of any bytes: the model's own state is as told where no check turns the job away, and elsewhere it does not count
 same-outcome : (o : Option Reason) {e k : Option ℕ} {w z : ℤ} → (o ≡ none → (e ≡ k) × (k ≡ none → w ≡ z)) → outcome o e w ≡ outcome o k z
@@ -156,18 +151,12 @@ module _ (s area : List ℕ) where
   abbrev j : Job
   j = jobOf s
 
-  abbrev g : ℕ → ℕ
-  g = groupAt (families j)
-
-  abbrev r : ℕ → Run
-  r = runAt (families j)
-
   pub verdict-by : verdictBy s area ≡ verdict s area
   unfolding verdictBy
   verdict-by = same-outcome (fault s area) cases ∙ sym (verdict-is s area)
     where
-      cases : fault s area ≡ none → (emptyBy j g r ≡ firstWithout j) × (firstWithout j ≡ none → worthBy j g r ≡ objective j (best j))
-      cases e = let f = lawful-of s area e in let q = empty-by j f g r (exact j f) in (q, λ k. worth-by j f g r (exact j f) (q ∙ k))
+      cases : fault s area ≡ none → (modelEmpty j ≡ firstWithout j) × (firstWithout j ≡ none → modelFindings j .worth ≡ objective j (best j))
+      cases e = let f = lawful-of s area e in (empty-by j f (groupAt (families j)) (runAt (families j)) (exact j f), worth-by j f (groupAt (families j)) (runAt (families j)) (exact j f) _ (λ i h. refl))
 
   pub sheet-by : sheetBy s area ≡ sheet s area
   unfolding sheetBy areaAfter
@@ -177,7 +166,7 @@ module _ (s area : List ℕ) where
       laid w e =
           let (o, h) = planned-when s area w e in
           let f = lawful-of s area o in
-          same-layout (findings-by j f g r (exact j f) (empty-by j f g r (exact j f) ∙ h .0))
+          same-layout (findings-by j f (groupAt (families j)) (runAt (families j)) (exact j f) _ (λ i h. refl) (h .0))
 
       go : (v : Verdict) → verdict s area ≡ v → areaAfter (modelFindings j) v area ≡ sheet s area
       go (planned w) e = ap (λ t. t ++ drop (length t) area) (laid w e) ∙ sym (if-planned s area e)

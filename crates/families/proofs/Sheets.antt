@@ -38,7 +38,7 @@ use Rattle.families.proofs.Exact.{readOff, family-run-is, family-form, 
 use Rattle.families.proofs.Choices.{choice-below, member-solution, solution-member, members-once}
 use Rattle.families.proofs.Wholes.{objective-own, objective-inside}
 use Rattle.families.proofs.Plans.{choice-in, best-at}
-use Rattle.families.proofs.Planned.{gain-by, gain-within}
+use Rattle.families.proofs.Planned.{slope-within}
 
 slope-is : (c : Job) → slope c ≡ objective c (step c)
 unfolding slope
@@ -115,13 +115,7 @@ module _ (j : Job) (lawful : LawfulJob j) (full : firstWithout j ≡ none) (rest
     own-chosen = chosen-back (findings j) rest g l (component-below j l below) lead (omega (arith, fits-small, many-is, chosen-below l m))
 
     own-gain : gainOn j after g ≡ slope c
-    own-gain = gain-back (findings j) rest g l (component-below j l below) lead (within-holds 8 (n * (1000000 * (2 * bound))) (slope c) (omega (arith, lawful .variables)) size)
-      where
-        -- by the sum of weight × step, with the labels and the runs of the definitions themselves
-        size : Within (n * (1000000 * (2 * bound))) (slope c)
-        size =
-            subst (Within (n * (1000000 * (2 * bound)))) (gain-by j lawful (lowest j) (familyRun j) (λ i h. (refl, refl)) l)
-            (gain-within j lawful (lowest j) (familyRun j) (λ i h. (refl, refl)) l)
+    own-gain = gain-back (findings j) rest g l (component-below j l below) lead (within-holds 8 (n * (1000000 * (2 * bound))) (slope c) (omega (arith, lawful .variables)) (slope-within j lawful l))
 
     -- its variables
     inside : (i : ℕ) → i < n → (groupOn after i ≡ g) ↔ (lowest j i ≡ l)

@@ -31,17 +31,17 @@ unfoldable pub componentBy : (ℕ → ℕ) → ℕ → ℕ → ℕ
 unfolding keep leadsBy
 componentBy g n i = length (keep (λ l. ltb l (g i)) (leadsBy g n))
 
--- ---- of a job, where r gives the run of each variable in the family of its group
-module _ (j : Job) (g : ℕ → ℕ) (r : ℕ → Run) where
-  -- the lowest variable of the first group whose family is empty
-  unfoldable pub emptyBy : Option ℕ
-  unfolding firstOf leadsBy
-  emptyBy = firstOf (λ l. equal? (r l .many) 0) (leadsBy g (length (j .variables)))
+-- the lowest variable of the first group whose family is empty, where r gives the run of each variable in the family of its group
+unfoldable pub emptyBy : ℕ → (ℕ → ℕ) → (ℕ → Run) → Option ℕ
+unfolding firstOf leadsBy
+emptyBy n g r = firstOf (λ l. equal? (r l .many) 0) (leadsBy g n)
 
+-- ---- the choice, where w gives the weight of each variable
+module _ (n : ℕ) (w : ℕ → ℤ) (g : ℕ → ℕ) (r : ℕ → Run) where
   -- of the group of l: the gain, and the index of the member that is chosen
   unfoldable pub gainBy : ℕ → ℤ
   unfolding sum
-  gainBy l = sumOf g l (length (j .variables)) (λ i. variable j i .weight *ℤ r i .step)
+  gainBy l = sumOf g l n (λ i. w i *ℤ r i .step)
 
   unfoldable pub chosenBy : ℕ → ℕ
   unfolding gainBy
@@ -53,13 +53,13 @@ module _ (j : Job) (g : ℕ → ℕ) (r : ℕ → Run) where
 
   unfoldable pub worthBy : ℤ
   unfolding sum numberBy
-  worthBy = sum (length (j .variables)) (λ i. variable j i .weight *ℤ numberBy i)
+  worthBy = sum n (λ i. w i *ℤ numberBy i)
 
   abbrev pub findingsBy : Findings
   findingsBy = record {
-    n = length (j .variables);
-    leaders = leadsBy g (length (j .variables));
-    group = componentBy g (length (j .variables));
+    n = n;
+    leaders = leadsBy g n;
+    group = componentBy g n;
     run = r;
     assigned = numberBy;
     index = chosenBy;
@@ -67,16 +67,17 @@ module _ (j : Job) (g : ℕ → ℕ) (r : ℕ → Run) where
     worth = worthBy;
   }
 
--- ---- of the bytes of a job and the area as lent
+-- ---- of a job, with the families that the model ends in
 abbrev pub modelFindings : Job → Findings
-modelFindings j = let t = families j in findingsBy j (groupAt t) (runAt t)
+modelFindings j = let t = families j in findingsBy (length (j .variables)) (λ i. variable j i .weight) (groupAt t) (runAt t)
 
+abbrev pub modelEmpty : Job → Option ℕ
+modelEmpty j = let t = families j in emptyBy (length (j .variables)) (groupAt t) (runAt t)
+
+-- of the bytes of a job and the area as lent
 unfoldable pub verdictBy : List ℕ → List ℕ → Verdict
 unfolding firstBroken jobOf leads families emptyBy worthBy
-verdictBy s area =
-    let j = jobOf s in
-    let t = families j in
-    outcome (firstBroken (short? j area) s) (emptyBy j (groupAt t) (runAt t)) (worthBy j (groupAt t) (runAt t))
+verdictBy s area = let j = jobOf s in outcome (firstBroken (short? j area) s) (modelEmpty j) (modelFindings j .worth)
 
 unfoldable pub sheetBy : List ℕ → List ℕ → List ℕ
 unfolding jobOf families verdictBy areaAfter leadsBy componentBy gainBy chosenBy numberBy worthBy

@@ -11,7 +11,7 @@ use Rattle.families.specs.FamilyRun.{FamilyRun}
 use Rattle.families.specs.Family.{choice}
 use Rattle.families.proofs.Choices.{choice-below}
 use Rattle.families.proofs.Sizes.{member-within}
-use Rattle.planner.specs.Choices.{numberAt}
+use Rattle.planner.specs.Choice.{numberAt}
 use Rattle.solver.proofs.Sizes.{fits}
 
 module _ {r : Run} (f : FamilyRun r) (some : 1 ≤ r .many) (gain : ℤ) where

@@ -3,10 +3,12 @@
 -- bytes written over others
 pub mod Overwriting
 -- the rows of a sheet, one behind the other
-pub mod Laying
+pub mod SheetRows
 -- the number that is chosen for a variable
 pub mod Choosing
 -- weights times numbers, added up
-pub mod Adding
--- what is made of the families is what the definitions say
-pub mod Concluding
+pub mod WeightedSums
+-- what is found in the arrays is what the model finds
+pub mod ArraysAgree
+-- what the families of a job say of the arrays
+pub mod StateOfJob

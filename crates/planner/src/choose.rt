@@ -2,13 +2,15 @@
 
 ghost use mathlib.Core.Path.{_≡_};
 ghost use Prim.Native.Nat.{_≤_};
+ghost use lib.IntN.{pos};
+ghost use Rattle.lists.specs.Table.{Tabulates};
+ghost use Rattle.jobs.specs.Solution.{number};
 ghost use Rattle.families.specs.FamilyRun.{FamilyRun};
-ghost use Rattle.jobs.specs.Job.{jobOf, variableCount};
-ghost use Rattle.jobs.specs.Lawful.{Lawful};
 ghost use Rattle.families.specs.Family.{choice};
+ghost use Rattle.families.specs.Plan.{gainBy};
+ghost use Rattle.solver.specs.Arrays.{groupIn, runIn};
 ghost use Rattle.solver.specs.Groups.{Labelled};
-ghost use Rattle.planner.specs.Choices.{Members, NoneEmpty, FirstEmpty, Gains, numberAt, worthOf};
-use jobs::Variable;
+ghost use Rattle.planner.specs.Choice.{FamilyRuns, NoneEmpty, AllWithin, FirstEmpty, numberAt, numberIn, worthIn};
 use runs::Run;
 
 /// The first group without a fit, by its lowest variable, or that there is none.
@@ -36,20 +38,24 @@ pub(crate) fn first_empty(runs: [Run; 256], n: usize) -> Found
 }
 
 // The gain of each group, at its lowest variable: what a step along its family adds to the worth.
-pub(crate) fn gains(job: &[u8], groups: [u16; 256], runs: [Run; 256], n: usize) -> [i64; 256]
-    requires { ⌜ Lawful (now job) ⌝ }
-    requires { ⌜ n ≡ variableCount (now job) ⌝ }
+pub(crate) fn gains(
+    weights: [i64; 256],
+    groups: [u16; 256],
+    runs: [Run; 256],
+    n: usize,
+) -> [i64; 256]
+    requires { ⌜ n ≤ 256 ⌝ }
+    requires { ⌜ AllWithin 1000000 weights n ⌝ }
     requires { ⌜ Labelled groups n ⌝ }
-    requires { ⌜ Members runs n ⌝ }
-    ensures { λ r. ⌜ Gains (jobOf (now (job .entry))) groups runs n r ⌝ }
+    requires { ⌜ FamilyRuns runs n ⌝ }
+    ensures { λ r. ⌜ Tabulates (pos 0) (gainBy n (number weights) (groupIn groups) (runIn runs)) n r ⌝ }
 {
     let mut gains: [i64; 256] = [0; 256];
     let mut i: usize = 0;
     while i < n {
-        let v = Variable::read(job, i);
         let run = runs[i];
         let l = groups[i] as usize;
-        gains[l] = gains[l] + v.weight * run.step;
+        gains[l] = gains[l] + weights[i] * run.step;
         i += 1;
     }
     gains
@@ -64,7 +70,7 @@ pub(crate) fn choice(gain: i64, many: u32) -> u32
 }
 
 // A variable's number in the member that is chosen.
-pub(crate) fn number(run: Run, gain: i64) -> i64
+fn number(run: Run, gain: i64) -> i64
     requires { ⌜ FamilyRun run ⌝ }
     requires { ⌜ 1 ≤ run .many ⌝ }
     ensures { λ r. ⌜ r ≡ numberAt run gain ⌝ }
@@ -72,28 +78,42 @@ pub(crate) fn number(run: Run, gain: i64) -> i64
     run.first + run.step * choice(gain, run.many) as i64
 }
 
-// The worth of these numbers.
-pub(crate) fn worth(
-    job: &[u8],
+// The number of each of n variables.
+pub(crate) fn numbers(
     groups: [u16; 256],
     runs: [Run; 256],
     gains: [i64; 256],
     n: usize,
-) -> i64
-    requires { ⌜ Lawful (now job) ⌝ }
-    requires { ⌜ n ≡ variableCount (now job) ⌝ }
+) -> [i64; 256]
+    requires { ⌜ n ≤ 256 ⌝ }
     requires { ⌜ Labelled groups n ⌝ }
-    requires { ⌜ Members runs n ⌝ }
+    requires { ⌜ FamilyRuns runs n ⌝ }
     requires { ⌜ NoneEmpty runs n ⌝ }
-    ensures { λ r. ⌜ r ≡ worthOf (jobOf (now (job .entry))) groups runs gains n ⌝ }
+    ensures { λ r. ⌜ Tabulates (pos 0) (numberIn groups runs gains) n r ⌝ }
+{
+    let mut numbers: [i64; 256] = [0; 256];
+    let mut i: usize = 0;
+    while i < n {
+        let run = runs[i];
+        let l = groups[i] as usize;
+        let x = number(run, gains[l]);
+        numbers[i] = x;
+        i += 1;
+    }
+    numbers
+}
+
+// What these numbers are worth.
+pub(crate) fn worth(weights: [i64; 256], numbers: [i64; 256], n: usize) -> i64
+    requires { ⌜ n ≤ 256 ⌝ }
+    requires { ⌜ AllWithin 1000000 weights n ⌝ }
+    requires { ⌜ AllWithin 2000000000 numbers n ⌝ }
+    ensures { λ r. ⌜ r ≡ worthIn weights numbers n ⌝ }
 {
     let mut worth: i64 = 0;
     let mut i: usize = 0;
     while i < n {
-        let v = Variable::read(job, i);
-        let run = runs[i];
-        let l = groups[i] as usize;
-        worth = worth + v.weight * number(run, gains[l]);
+        worth = worth + weights[i] * numbers[i];
         i += 1;
     }
     worth

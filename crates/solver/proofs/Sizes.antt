@@ -21,6 +21,9 @@ fits {x} n h w = lin (x ∷ pos n ∷ []) (w & h) (search signed depth 20) (omeg
 pub held-element : (x : ℤ) → mag x < 9223372036854775808 → held x ≡ x
 held-element x h = toZ-ofZ {w = w64} {z = x} record { sfits = h }
 
+pub held-within : {n : ℕ} {x : ℤ} → n < 9223372036854775808 → Within n x → held x ≡ x
+held-within {n} h w = toZ-ofZ (fits n h w)
+
 -- a run's first number and step, as 64-bit locals hold them
 module _ {r : Run} (w : Crossable r) where
   pub fits-first : SFits w64 (r .first)

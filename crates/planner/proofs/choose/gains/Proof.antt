@@ -1,7 +1,7 @@
 -- `gains` meets its contract: each variable adds to its own group.
-use mathlib.Core.Path.{_≡_, refl, sym, _∙_, ap}
+use mathlib.Core.Path.{_≡_, refl, sym, _∙_, ap, subst}
 use mathlib.Core.List.{List}
-use Prim.Native.Nat.{ℕ, zero, suc, _+_, _*_, _-_, _≤_, _<_}
+use Prim.Native.Nat.{ℕ, zero, suc, _+_, _-_, _≤_, _<_}
 use borrow.Author.Needs.{needs}
 use native.Mathlib.Decide.{ℕ-discrete}
 use lib.Dec.{eqb}
@@ -13,144 +13,151 @@ use Rattle.ints.proofs.{ℤ, pos, _+ℤ_, _*ℤ_, [], _∷_, arith, lin₀, fac
 use Rattle.lists.specs.Sums.{sum, pick, sumOf}
 use Rattle.lists.proofs.Sums.{sum-next, pick-yes, pick-no}
 use Rattle.runs.specs.declared.Run.{Run}
-use Rattle.jobs.specs.Job.{Job, jobOf, variable, variableCount}
-use Rattle.jobs.proofs.JobOf.{variables-of}
+use Rattle.jobs.specs.Solution.{number}
 use Rattle.families.specs.Plan.{gainBy}
 use Rattle.families.proofs.Sizes.{step-within}
 use Rattle.solver.specs.Arrays.{groupIn, runIn}
-use Rattle.solver.proofs.Sizes.{held-element, held-step, crossable}
-use Rattle.planner.proofs.Adding.{fits-product, fits-total, total-is, n-at-most, variable-asked, weight-within, held-weight, sums-within}
+use Rattle.solver.proofs.Sizes.{held-within}
+use Rattle.planner.proofs.WeightedSums.{fits-product, fits-total, total-is, sums-within}
 use Rattle.planner.proofs.choose.gains.Statement.{statement}
 use Rattle.planner.proofs.choose.gains.Tie as tie
 
-whole : (s groups : List ℕ) (runs : List Run) (n i l : ℕ) → n ≡ variableCount s → i ≡ n →
-    sumOf (groupIn groups) l i (λ k. variable (jobOf s) k .weight *ℤ runIn runs k .step) ≡ gainBy (jobOf s) (groupIn groups) (runIn runs) l
-unfolding gainBy
-whole s groups runs n i l p q = ap (λ m. sumOf (groupIn groups) l m (λ k. variable (jobOf s) k .weight *ℤ runIn runs k .step)) (q ∙ p ∙ sym (variables-of s))
-
-plus-zero : (x : ℤ) → x +ℤ pos 0 ≡ x
-plus-zero x = lin₀ (x ∷ []) (search facts depth 20) (omega arith)
-
--- the gains of the first i variables
-record Summed (j : Job) (groups : List ℕ) (runs : List Run) (n i : ℕ) (gains : List ℤ) : Type 0 where
+-- the gains of the first i variables: w gives the weights, g the labels and s the steps
+record Summed (w : ℕ → ℤ) (g : ℕ → ℕ) (s : ℕ → ℤ) (n i : ℕ) (gains : List ℤ) : Type 0 where
   long : length gains ≡ 256
-  at : (l : ℕ) → l < n → getD gains l (pos 0) ≡ sumOf (groupIn groups) l i (λ k. variable j k .weight *ℤ runIn runs k .step)
+  at : (l : ℕ) → l < n → getD gains l (pos 0) ≡ sumOf g l i (λ k. w k *ℤ s k)
 
 zeros : (n l : ℕ) → getD (replicate n (pos 0)) l (pos 0) ≡ pos 0
 zeros zero l = refl
 zeros (suc n) zero = refl
 zeros (suc n) (suc l) = zeros n l
 
-none : (j : Job) (groups : List ℕ) (runs : List Run) (n : ℕ) → Summed j groups runs n 0 (replicate 256 (pos 0))
-unfolding sum
-none j groups runs n = record { long = length-replicate 256 (pos 0); at = λ l h. zeros 256 l }
+plus-zero : (x : ℤ) → x +ℤ pos 0 ≡ x
+plus-zero x = lin₀ (x ∷ []) (search facts depth 20) (omega arith)
 
--- one variable more: i adds x to its group
-module _ (j : Job) (groups : List ℕ) (runs : List Run) (n i : ℕ) (gains : List ℤ) (f : Summed j groups runs n i gains) where
-  abbrev g : ℕ → ℕ
-  g = groupIn groups
+module _ (w : ℕ → ℤ) (g : ℕ → ℕ) (s : ℕ → ℤ) (n : ℕ) where
+  abbrev term : ℕ → ℤ
+  term k = w k *ℤ s k
 
-  abbrev weighed : ℕ → ℤ
-  weighed k = variable j k .weight *ℤ runIn runs k .step
+  none : Summed w g s n 0 (replicate 256 (pos 0))
+  unfolding sum
+  none = record { long = length-replicate 256 (pos 0); at = λ l h. zeros 256 l }
 
-  more : g i < n → n ≤ 256 → (x : ℤ) → x ≡ sumOf g (g i) i weighed +ℤ weighed i → Summed j groups runs n (i + 1) (set gains (g i) x)
-  more b small x e = record { long = length-set gains (g i) x ∙ f .long; at = λ l h. sym (sum-next i (λ k. pick (eqb (g k) l) (weighed k)) ∙ sym (go l h (ℕ-discrete l (g i)))) }
+  -- one variable more: i adds to its group
+  more : (i : ℕ) (gains : List ℤ) → Summed w g s n i gains → g i < n → n ≤ 256 → (x : ℤ) → x ≡ sumOf g (g i) i term +ℤ term i → Summed w g s n (i + 1) (set gains (g i) x)
+  more i gains f b small x e = record {
+    long = length-set gains (g i) x ∙ f .long;
+    at = λ l h. go l h (ℕ-discrete l (g i)) ∙ sym (sum-next i (λ k. pick (eqb (g k) l) (term k)));
+  }
     where
-      go : (l : ℕ) → l < n → Dec (l ≡ g i) → getD (set gains (g i) x) l (pos 0) ≡ sumOf g l i weighed +ℤ pick (eqb (g i) l) (weighed i)
+      go : (l : ℕ) → l < n → Dec (l ≡ g i) → getD (set gains (g i) x) l (pos 0) ≡ sumOf g l i term +ℤ pick (eqb (g i) l) (term i)
       go l h (yes q) =
           ap (λ l. getD (set gains (g i) x) l (pos 0)) q
           ∙ getD-set-same gains (g i) x (pos 0) (omega (arith, f .long)) ∙ e
-          ∙ ap (λ t. sumOf g (g i) i weighed +ℤ t) (sym (pick-yes (g i) (weighed i)))
-          ∙ ap (λ l. sumOf g l i weighed +ℤ pick (eqb (g i) l) (weighed i)) (sym q)
+          ∙ ap (λ t. sumOf g (g i) i term +ℤ t) (sym (pick-yes (g i) (term i)))
+          ∙ ap (λ l. sumOf g l i term +ℤ pick (eqb (g i) l) (term i)) (sym q)
       go l h (no d) =
           getD-set-other gains (g i) l x (pos 0) d ∙ f .at l h
-          ∙ sym (ap (λ t. sumOf g l i weighed +ℤ t) (pick-no (g i) l (weighed i) (λ q. d (sym q))) ∙ plus-zero (sumOf g l i weighed))
+          ∙ sym (ap (λ t. sumOf g l i term +ℤ t) (pick-no (g i) l (term i) (λ q. d (sym q))) ∙ plus-zero (sumOf g l i term))
+
+abbrev steps : List Run → ℕ → ℤ
+steps runs k = runIn runs k .step
+
+whole : (n i l : ℕ) (w : ℕ → ℤ) (g : ℕ → ℕ) (r : ℕ → Run) → i ≡ n → sumOf g l i (λ k. w k *ℤ r k .step) ≡ gainBy n w g r l
+unfolding gainBy
+whole n i l w g r e = ap (λ m. sumOf g l m (λ k. w k *ℤ r k .step)) e
 
 abbrev Inv-loop : tie.InvT-loop
-Inv-loop job n groups runs gains₀ i₀ gains i = (i ≤ n) × Summed (jobOf job) groups runs n i gains
+Inv-loop n weights groups runs gains₀ i₀ gains i = (i ≤ n) × Summed (number weights) (groupIn groups) (steps runs) n i gains
 
 abbrev μ-loop : tie.MeasureT-loop
-μ-loop job n groups runs gains₀ i₀ gains i = n - i
+μ-loop n weights groups runs gains₀ i₀ gains i = n - i
 
 loop-holds : tie.Need-loop-holds Inv-loop μ-loop
-loop-holds c = let x = c .before .args in (omega arith, none (jobOf (x .job .now)) (x .t2) (x .t3) (x .n))
-
-read-requires : tie.Need-read-requires Inv-loop μ-loop
-read-requires c κs = let s = c .before .before .before in variable-asked (s .pre .0) (s .pre .1 .0) (c .before .loop .i) (omega arith)
+loop-holds c = let x = c .args in (omega arith, none (number (x .t1)) (groupIn (x .t2)) (steps (x .t3)) (x .n))
 
 mul-run : tie.Need-mul-run Inv-loop μ-loop
-mul-run c = let s = c .before .before .before .before in omega (arith, n-at-most (s .pre .0) (s .pre .1 .0))
+mul-run c = omega arith
 
 array-copy-out-run : tie.Need-array-copy-out-run Inv-loop μ-loop
-array-copy-out-run c = let s = c .before .before .before .before in omega (arith, n-at-most (s .pre .0) (s .pre .1 .0))
+array-copy-out-run c = omega arith
 
 mul-l : tie.Need-mul-l Inv-loop μ-loop
-mul-l c = let s = c .before .before .before .before .before in omega (arith, n-at-most (s .pre .0) (s .pre .1 .0))
+mul-l c = omega arith
 
 array-read-l : tie.Need-array-read-l Inv-loop μ-loop
-array-read-l c = let s = c .before .before .before .before .before in omega (arith, n-at-most (s .pre .0) (s .pre .1 .0))
+array-read-l c = omega arith
 
 cast-l : tie.Need-cast-l Inv-loop μ-loop
 cast-l c = search needs
 
 mul-gains : tie.Need-mul-gains Inv-loop μ-loop
-mul-gains c = let l = c .before .before .before .loop in let s = c .before .before .before .before .before in omega (arith, n-at-most (s .pre .0) (s .pre .1 .0), s .pre .1 .1 .0 .at (l .i) (omega arith))
+mul-gains c = omega (arith, c .before .before .before .pre .1 .1 .0 .at (c .before .before .loop .i) (omega arith))
 
 array-copy-out-gains : tie.Need-array-copy-out-gains Inv-loop μ-loop
-array-copy-out-gains c = let l = c .before .before .before .loop in let s = c .before .before .before .before .before in omega (arith, n-at-most (s .pre .0) (s .pre .1 .0), s .pre .1 .1 .0 .at (l .i) (omega arith))
+array-copy-out-gains c = omega (arith, c .before .before .before .pre .1 .1 .0 .at (c .before .before .loop .i) (omega arith))
+
+mul-gains-2 : tie.Need-mul-gains-2 Inv-loop μ-loop
+mul-gains-2 c = omega arith
+
+array-copy-out-gains-2 : tie.Need-array-copy-out-gains-2 Inv-loop μ-loop
+array-copy-out-gains-2 c = omega arith
 
 -- after all is read
-module _ (c : tie.After-struct-told2 Inv-loop μ-loop) where
+module _ (c : tie.After-struct-told Inv-loop μ-loop) where
   abbrev start : tie.Start Inv-loop μ-loop
-  start = c .before .before .before .before .before .before .before .before .before .before
+  start = c .before .before .before .before .before .before .before
 
   abbrev loop : tie.At-loop Inv-loop μ-loop
-  loop = c .before .before .before .before .before .before .before .before
+  loop = c .before .before .before .before .before .before
 
   abbrev i : ℕ
   i = loop .loop .i
 
-  abbrev job : List ℕ
-  job = start .args .job .now
+  abbrev w : ℕ → ℤ
+  w = number (start .args .t1)
 
-  abbrev l : ℕ
-  l = groupIn (start .args .t2) i
+  abbrev g : ℕ → ℕ
+  g = groupIn (start .args .t2)
+
+  abbrev s : ℕ → ℤ
+  s = steps (start .args .t3)
 
   below : i < start .args .n
   below = omega arith
 
-  low : l < start .args .n
+  low : g i < start .args .n
   low = omega (arith, start .pre .1 .1 .0 .at i below, below)
 
-  before : held (getD (loop .loop .gains) l (pos 0)) ≡ sumOf (groupIn (start .args .t2)) l i (λ k. variable (jobOf job) k .weight *ℤ runIn (start .args .t3) k .step)
-  before = held-element (getD (loop .loop .gains) l (pos 0)) (c .before .before .before .before .gains .given) ∙ loop .loop .inv .1 .at l low
+  weight-small : Within 1000000 (w i)
+  weight-small = start .pre .1 .0 .at i below
 
-  weight : held (c .before .before .before .before .before .before .read .result .weight) ≡ variable (jobOf job) i .weight
-  weight = held-weight (start .pre .0) (start .pre .1 .0) i below (c .before .before .before .before .before .before .read .result) (c .before .before .before .before .before .before .read .ensures)
+  step-small : (k : ℕ) → k < start .args .n → Within 2000000000 (s k)
+  step-small k h = step-within (start .pre .1 .1 .1 .at k h)
 
-  step : held (runIn (start .args .t3) i .step) ≡ runIn (start .args .t3) i .step
-  step = held-step (crossable (start .pre .1 .1 .1 .at i below))
+  sum-small : Within 600000000000000000 (sumOf g (g i) i (λ k. w k *ℤ s k))
+  sum-small = sums-within (start .pre .0) w s (start .pre .1 .0 .at) step-small g (g i) i (omega arith)
 
-  weight-small : Within 1000000 (variable (jobOf job) i .weight)
-  weight-small = weight-within (start .pre .0) (start .pre .1 .0) i below
+  before : held (number (loop .loop .gains) (g i)) ≡ sumOf g (g i) i (λ k. w k *ℤ s k)
+  before = let e = loop .loop .inv .1 .at (g i) low in held-within (omega arith) (subst (Within 600000000000000000) (sym e) sum-small) ∙ e
 
-  step-small : Within 2000000000 (runIn (start .args .t3) i .step)
-  step-small = step-within (start .pre .1 .1 .1 .at i below)
+  weight : held (w i) ≡ w i
+  weight = held-within (omega arith) weight-small
 
-  sum-small : Within 600000000000000000 (sumOf (groupIn (start .args .t2)) l i (λ k. variable (jobOf job) k .weight *ℤ runIn (start .args .t3) k .step))
-  sum-small = sums-within (start .pre .0) (start .pre .1 .0) (start .args .t2) (start .args .t3) (start .pre .1 .1 .1) l i (omega arith)
-
-mul-gains-2 : tie.Need-mul-gains-2 Inv-loop μ-loop
-mul-gains-2 c = fits-product (before c) (weight c) (step c) (weight-small c) (step-small c) (sum-small c)
-
-add-gains : tie.Need-add-gains Inv-loop μ-loop
-add-gains c = fits-total (before c) (weight c) (step c) (weight-small c) (step-small c) (sum-small c)
+  step : held (s i) ≡ s i
+  step = held-within (omega arith) (step-small i below)
 
 mul-gains-3 : tie.Need-mul-gains-3 Inv-loop μ-loop
-mul-gains-3 c = let l = c .before .before .before .before .before .before .before .before .loop in let s = c .before .before .before .before .before .before .before .before .before .before in omega (arith, n-at-most (s .pre .0) (s .pre .1 .0), s .pre .1 .1 .0 .at (l .i) (omega arith))
+mul-gains-3 c = fits-product (before c) (weight c) (step c) (weight-small c) (step-small c (i c) (below c)) (sum-small c)
+
+add-gains : tie.Need-add-gains Inv-loop μ-loop
+add-gains c = fits-total (before c) (weight c) (step c) (weight-small c) (step-small c (i c) (below c)) (sum-small c)
+
+mul-gains-4 : tie.Need-mul-gains-4 Inv-loop μ-loop
+mul-gains-4 c = omega (arith, low c)
 
 array-set-from-gains : tie.Need-array-set-from-gains Inv-loop μ-loop
-array-set-from-gains c = let l = c .before .before .before .before .before .before .before .before .loop in let s = c .before .before .before .before .before .before .before .before .before .before in omega (arith, n-at-most (s .pre .0) (s .pre .1 .0), s .pre .1 .1 .0 .at (l .i) (omega arith))
+array-set-from-gains c = omega (arith, low c)
 
 add-i : tie.Need-add-i Inv-loop μ-loop
 add-i c = omega arith
@@ -159,17 +166,18 @@ loop-less : tie.Need-loop-less Inv-loop μ-loop
 loop-less c = omega arith
 
 loop-again : tie.Need-loop-again Inv-loop μ-loop
-loop-again c =
-    let s = start c in
-    (omega arith, more (jobOf (job c)) (s .args .t2) (s .args .t3) (s .args .n) (i c) (loop c .loop .gains) (loop c .loop .inv .1) (low c) (n-at-most (s .pre .0) (s .pre .1 .0)) _ (total-is (before c) (weight c) (step c) (weight-small c) (step-small c) (sum-small c)))
+loop-again c = (
+  omega arith,
+  more (w c) (g c) (s c) (start c .args .n) (i c) (loop c .loop .gains) (loop c .loop .inv .1) (low c) (start c .pre .0) _
+      (total-is (before c) (weight c) (step c) (weight-small c) (step-small c (i c) (below c)) (sum-small c)),
+)
 
 returns : tie.Need-returns Inv-loop μ-loop
 returns c =
     let l = c .before .loop in
-    let s = c .before .before .before in
-    let x = s .args in
+    let x = c .before .before .args in
     let e : l .i ≡ x .n = omega arith in
-    record { at = λ k h. l .inv .1 .at k h ∙ whole (x .job .now) (x .t2) (x .t3) (x .n) (l .i) k (s .pre .1 .0) e }
+    record { at = λ k h. l .inv .1 .at k h ∙ whole (x .n) (l .i) k (number (x .t1)) (groupIn (x .t2)) (runIn (x .t3)) e }
 
 pub gains-spec : {M : Type 1} → statement M
 gains-spec =
@@ -178,7 +186,6 @@ gains-spec =
     Inv-loop
     μ-loop
     loop-holds
-    read-requires
     mul-run
     array-copy-out-run
     mul-l
@@ -187,8 +194,10 @@ gains-spec =
     mul-gains
     array-copy-out-gains
     mul-gains-2
-    add-gains
+    array-copy-out-gains-2
     mul-gains-3
+    add-gains
+    mul-gains-4
     array-set-from-gains
     add-i
     loop-less

@@ -7,7 +7,7 @@ use lib.ListN.{length}
 use Rattle.ints.proofs.{ℤ, List, arith}
 use Rattle.jobs.specs.Bytes.{bytesOf, signedBytes}
 use Rattle.families.specs.Family.{choice}
-use Rattle.families.specs.Plan.{groupRow}
+use Rattle.jobs.specs.Sheet.{sheetGroup}
 use Rattle.planner.specs.Area.{over}
 use Rattle.planner.proofs.Overwriting.{over-same, Written, behind-it, length-bytesOf, length-signedBytes}
 use Rattle.planner.proofs.sheet.group.Statement.{statement}
@@ -15,8 +15,8 @@ use Rattle.planner.proofs.sheet.group.Tie as tie
 
 -- the three fields
 row : (at many k : ℕ) (gain : ℤ) (a l₁ l₂ l₃ : List ℕ) → at + 16 ≤ length a → l₁ ≡ over at (bytesOf 4 many) a → l₂ ≡ over (at + 4) (bytesOf 4 k) l₁ →
-    l₃ ≡ over (at + 8) (signedBytes 8 gain) l₂ → l₃ ≡ over at (groupRow many k gain) a
-unfolding groupRow
+    l₃ ≡ over (at + 8) (signedBytes 8 gain) l₂ → l₃ ≡ over at (sheetGroup many k gain) a
+unfolding sheetGroup
 row at many k gain a l₁ l₂ l₃ h e₁ e₂ e₃ =
     let w₁ : Written at 4 a (bytesOf 4 many) l₁ = record { is = e₁; wide = length-bytesOf 4 many } in
     let w₂ = behind-it w₁ (omega arith) (bytesOf 4 k) e₂ refl (length-bytesOf 4 k) in

@@ -6,8 +6,7 @@ use mir.Facts.{toZ-ofZ}
 use lib.ListN.{length}
 use Rattle.ints.proofs.{ℤ, List, arith}
 use Rattle.jobs.specs.Bytes.{bytesOf, signedBytes}
-use Rattle.jobs.specs.Sheet.{answerMark}
-use Rattle.families.specs.Plan.{headerRow}
+use Rattle.jobs.specs.Sheet.{answerMark, sheetHeader}
 use Rattle.planner.specs.Area.{over}
 use Rattle.planner.proofs.Overwriting.{over-same, Written, behind-it, length-bytesOf, length-signedBytes}
 use Rattle.planner.proofs.sheet.header.Statement.{statement}
@@ -15,8 +14,8 @@ use Rattle.planner.proofs.sheet.header.Tie as tie
 
 -- the six fields
 row : (n g : ℕ) (worth : ℤ) (a l₁ l₂ l₃ l₄ l₅ l₆ : List ℕ) → 24 ≤ length a → l₁ ≡ over 0 answerMark a → l₂ ≡ over 4 (bytesOf 2 n) l₁ → l₃ ≡ over 6 (bytesOf 2 g) l₂ →
-    l₄ ≡ over 8 (bytesOf 4 24) l₃ → l₅ ≡ over 12 (bytesOf 4 (24 + 16 * n)) l₄ → l₆ ≡ over 16 (signedBytes 8 worth) l₅ → l₆ ≡ over 0 (headerRow n g worth) a
-unfolding headerRow
+    l₄ ≡ over 8 (bytesOf 4 24) l₃ → l₅ ≡ over 12 (bytesOf 4 (24 + 16 * n)) l₄ → l₆ ≡ over 16 (signedBytes 8 worth) l₅ → l₆ ≡ over 0 (sheetHeader n g worth) a
+unfolding sheetHeader
 row n g worth a l₁ l₂ l₃ l₄ l₅ l₆ h e₁ e₂ e₃ e₄ e₅ e₆ =
     let w₁ : Written 0 4 a answerMark l₁ = record { is = e₁; wide = refl } in
     let w₂ = behind-it w₁ (omega arith) (bytesOf 2 n) e₂ refl (length-bytesOf 2 n) in

@@ -1,4 +1,4 @@
--- `components` meets its contract: row for row.
+-- `group_rows` meets its contract: row for row.
 use mathlib.Core.Path.{_≡_, sym, _∙_, ap}
 use mathlib.Core.Logic.{⊎-elim}
 use mathlib.Core.List.{List, [], _∷_}
@@ -9,22 +9,32 @@ use lib.ListN.{length, getD, length-append}
 use lib.IntN.{ℤ, pos}
 use Rattle.runs.specs.declared.Run.{Run}
 use Rattle.families.specs.Family.{choice}
-use Rattle.families.specs.Plan.{leadsBy, groupRow}
+use Rattle.jobs.specs.Solution.{number}
+use Rattle.jobs.specs.Sheet.{sheetGroup, sheetGroups}
+use Rattle.jobs.proofs.Fields.{length-groups}
+use Rattle.families.specs.Plan.{leadsBy}
 use Rattle.planner.specs.Area.{over}
 use Rattle.solver.specs.Arrays.{groupIn, runIn}
-use Rattle.planner.specs.Choices.{groupRowOf, groupRowsOf}
+use Rattle.planner.specs.Choice.{chosenIn}
 use Rattle.solver.proofs.Leads.{leads-none, leads-yes, leads-no, leads-length, leads-mono}
 use Rattle.planner.proofs.Overwriting.{over-none, over-same}
 use Rattle.solver.proofs.Sizes.{held-element}
-use Rattle.planner.proofs.Laying.{laid, laid-length, groups-none, groups-yes, groups-no, length-groups}
-use Rattle.planner.proofs.sheet.components.Statement.{statement}
-use Rattle.planner.proofs.sheet.components.Tie as tie
+use Rattle.planner.proofs.SheetRows.{laid, laid-length, groups-none, groups-yes, groups-no}
+use Rattle.planner.proofs.sheet.group_rows.Statement.{statement}
+use Rattle.planner.proofs.sheet.group_rows.Tie as tie
+
+-- the rows of the groups that the first i variables lead
+abbrev rows : List ℕ → List Run → List ℤ → ℕ → List ℕ
+rows groups runs gains i = sheetGroups (runIn runs) (chosenIn runs gains) (number gains) (leadsBy (groupIn groups) i)
+
+long : (groups : List ℕ) (runs : List Run) (gains : List ℤ) (i : ℕ) → length (rows groups runs gains i) ≡ 16 * length (leadsBy (groupIn groups) i)
+long groups runs gains i = length-groups (runIn runs) (chosenIn runs gains) (number gains) (leadsBy (groupIn groups) i)
 
 -- the part stays as long as it is
 kept : (groups : List ℕ) (runs : List Run) (gains : List ℤ) (n i : ℕ) (a x : List ℕ) → i ≤ n → 16 * length (leadsBy (groupIn groups) n) ≤ length a →
-    x ≡ over 0 (groupRowsOf groups runs gains i) a → length x ≡ length a
+    x ≡ over 0 (rows groups runs gains i) a → length x ≡ length a
 kept groups runs gains n i a x h l e =
-    laid-length 0 (length (leadsBy (groupIn groups) i)) (groupRowsOf groups runs gains i) a x (length-groups groups runs gains i)
+    laid-length 0 (length (leadsBy (groupIn groups) i)) (rows groups runs gains i) a x (long groups runs gains i)
     (omega (arith, leads-mono (groupIn groups) i n h, l)) e
 
 -- at the lowest variable i of a group there is room for a row
@@ -35,7 +45,7 @@ more : (g : ℕ → ℕ) (i at : ℕ) → g i ≡ i → at ≡ 16 * length (lead
 more g i at e q = omega (arith, q, ap length (leads-yes g i e) ∙ length-append (leadsBy g i) (i ∷ []))
 
 abbrev Inv-loop : tie.InvT-loop
-Inv-loop part₀ n groups runs gains at₀ i₀ part at i = (i ≤ n) × ((at ≡ 16 * length (leadsBy (groupIn groups) i)) × (part ≡ over 0 (groupRowsOf groups runs gains i) part₀))
+Inv-loop part₀ n groups runs gains at₀ i₀ part at i = (i ≤ n) × ((at ≡ 16 * length (leadsBy (groupIn groups) i)) × (part ≡ over 0 (rows groups runs gains i) part₀))
 
 abbrev μ-loop : tie.MeasureT-loop
 μ-loop part₀ n groups runs gains at₀ i₀ part at i = n - i
@@ -46,7 +56,7 @@ loop-holds c =
       omega arith,
       (
         sym (ap (λ ls. 16 * length ls) (leads-none (groupIn (x .t2)))),
-        sym (ap (λ b. over 0 b (x .part .now)) (groups-none (x .t2) (x .t3) (x .t4)) ∙ over-none 0 (x .part .now) (omega arith)),
+        sym (ap (λ b. over 0 b (x .part .now)) (groups-none (groupIn (x .t2)) (runIn (x .t3)) (chosenIn (x .t3) (x .t4)) (number (x .t4))) ∙ over-none 0 (x .part .now) (omega arith)),
       ),
     )
 
@@ -103,17 +113,17 @@ loop-again c =
       omega arith,
       (
         w .8 ∙ more g (l .i) (l .at) (w .0 .taken) (l .inv .1 .0),
-        w .7 ∙ laid 0 (length (leadsBy g (l .i))) (groupRowsOf (x .t2) (x .t3) (x .t4) (l .i)) (groupRowOf (x .t3) (x .t4) (l .i)) (x .part .now) (l .part) _ (length-groups (x .t2) (x .t3) (x .t4) (l .i))
+        w .7 ∙ laid 0 (length (leadsBy g (l .i))) (rows (x .t2) (x .t3) (x .t4) (l .i)) (sheetGroup (runIn (x .t3) (l .i) .many) (chosenIn (x .t3) (x .t4) (l .i)) (number (x .t4) (l .i))) (x .part .now) (l .part) _ (long (x .t2) (x .t3) (x .t4) (l .i))
             (omega (arith, room g (x .n) (l .i) (x .part .now) (omega arith) (w .0 .taken) (s .pre .1 .0))) (omega (arith, l .inv .1 .0)) (l .inv .1 .1)
-            (over-same (l .at) (l .part) _ (ap (λ z. groupRow (runIn (x .t3) (l .i) .many) (choice z (runIn (x .t3) (l .i) .many)) z) (held-element (getD (x .t4) (l .i) (pos 0)) (w .3 .given))) (w .4 .ensures))
-            ∙ ap (λ b. over 0 b (x .part .now)) (groups-yes (x .t2) (x .t3) (x .t4) (l .i) (w .0 .taken)),
+            (over-same (l .at) (l .part) _ (ap (λ z. sheetGroup (runIn (x .t3) (l .i) .many) (choice z (runIn (x .t3) (l .i) .many)) z) (held-element (getD (x .t4) (l .i) (pos 0)) (w .3 .given))) (w .4 .ensures))
+            ∙ ap (λ b. over 0 b (x .part .now)) (groups-yes (groupIn (x .t2)) (runIn (x .t3)) (chosenIn (x .t3) (x .t4)) (number (x .t4)) (l .i) (w .0 .taken)),
       ),
     ))
     (λ w. (
       omega arith,
       (
         w .2 ∙ l .inv .1 .0 ∙ sym (ap (λ ls. 16 * length ls) (leads-no g (l .i) (w .0 .left))),
-        w .1 ∙ l .inv .1 .1 ∙ ap (λ b. over 0 b (x .part .now)) (groups-no (x .t2) (x .t3) (x .t4) (l .i) (w .0 .left)),
+        w .1 ∙ l .inv .1 .1 ∙ ap (λ b. over 0 b (x .part .now)) (groups-no (groupIn (x .t2)) (runIn (x .t3)) (chosenIn (x .t3) (x .t4)) (number (x .t4)) (l .i) (w .0 .left)),
       ),
     ))
     (c .if1 .came)
@@ -130,10 +140,10 @@ returns c =
     let l = c .before .loop in
     let x = c .before .before .before .args in
     let e : l .i ≡ x .n = omega arith in
-    l .inv .1 .1 ∙ ap (λ k. over 0 (groupRowsOf (x .t2) (x .t3) (x .t4) k) (x .part .now)) e
+    l .inv .1 .1 ∙ ap (λ k. over 0 (rows (x .t2) (x .t3) (x .t4) k) (x .part .now)) e
 
-pub components-spec : {M : Type 1} → statement M
-components-spec =
+pub group-rows-spec : {M : Type 1} → statement M
+group-rows-spec =
     tie.close
     (tie.spec
     Inv-loop

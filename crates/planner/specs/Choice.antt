@@ -1,0 +1,69 @@
+-- The choice in the program: what is made of the arrays of labels, runs and weights, and so the findings that are written.
+use mathlib.Core.Path.{_≡_}
+use mathlib.Core.List.{List}
+use Prim.Native.Nat.{ℕ, _≤_, _<_}
+use lib.IntN.{ℤ, pos, _+ℤ_, _*ℤ_}
+use Rattle.ints.specs.Within.{Within}
+use Rattle.lists.specs.Sums.{sum}
+use Rattle.runs.specs.declared.Run.{Run}
+use Rattle.jobs.specs.Solution.{number}
+use Rattle.jobs.specs.Findings.{Findings}
+use Rattle.families.specs.FamilyRun.{FamilyRun}
+use Rattle.families.specs.Family.{choice}
+use Rattle.families.specs.Plan.{leadsBy, componentBy}
+use Rattle.solver.specs.Arrays.{groupIn, runIn}
+use Rattle.planner.specs.declared.choose.Found.{Found}
+use Rattle.planner.specs.declared.choose.Found.the-variants.{At, Nothing}
+
+-- ---- what is asked of the arrays, for n variables
+-- each run is that of a variable in a family
+pub record FamilyRuns (runs : List Run) (n : ℕ) : Type 0 where
+  pub at : (i : ℕ) → i < n → FamilyRun (runIn runs i)
+
+-- and in that of its group, which has as many members for all of them
+pub record Members (groups : List ℕ) (runs : List Run) (n : ℕ) : Type 0 where
+  pub form : FamilyRuns runs n
+  pub many : (i : ℕ) → i < n → runIn runs i .many ≡ runIn runs (groupIn groups i) .many
+
+-- and no family is empty, where every group has a fit-out
+pub record NoneEmpty (runs : List Run) (n : ℕ) : Type 0 where
+  pub at : (i : ℕ) → i < n → 1 ≤ runIn runs i .many
+
+-- each number is at most so large in size
+pub record AllWithin (size : ℕ) (xs : List ℤ) (n : ℕ) : Type 0 where
+  pub at : (i : ℕ) → i < n → Within size (number xs i)
+
+-- ---- what is made of them
+-- the first of n variables whose family is empty
+abbrev pub FirstEmpty : List Run → ℕ → Found → Type 0
+FirstEmpty runs n (At l) = (l < n) × ((runIn runs l .many ≡ 0) × NoneEmpty runs l)
+FirstEmpty runs n Nothing = NoneEmpty runs n
+
+-- a variable's number, where a step along its group's family gains so much
+abbrev pub numberAt : Run → ℤ → ℤ
+numberAt run gain = run .first +ℤ run .step *ℤ pos (choice gain (run .many))
+
+abbrev pub numberIn : List ℕ → List Run → List ℤ → ℕ → ℤ
+numberIn groups runs gains i = numberAt (runIn runs i) (number gains (groupIn groups i))
+
+-- what numbers are worth
+unfoldable pub worthIn : List ℤ → List ℤ → ℕ → ℤ
+unfolding sum
+worthIn weights numbers n = sum n (λ i. number weights i *ℤ number numbers i)
+
+-- the index of the member that is chosen in the group of l
+abbrev pub chosenIn : List Run → List ℤ → ℕ → ℕ
+chosenIn runs gains l = choice (number gains l) (runIn runs l .many)
+
+-- all that is found
+abbrev pub findingsIn : List ℕ → List Run → List ℤ → List ℤ → ℕ → ℤ → Findings
+findingsIn groups runs gains numbers n worth = record {
+  n = n;
+  leaders = leadsBy (groupIn groups) n;
+  group = componentBy (groupIn groups) n;
+  run = runIn runs;
+  assigned = number numbers;
+  index = chosenIn runs gains;
+  gain = number gains;
+  worth = worth;
+}
