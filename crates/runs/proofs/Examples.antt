@@ -47,8 +47,3 @@ small-jobs = (
 pub full-job : meet full (carry (pos 1000000) (negsuc 999998) (pos 1) full) ≡ record { first = negsuc 999998998; step = pos 999999; many = 2000 }
 unfolding meetModel carryModel
 full-job = by-model (pos 1000000) (negsuc 999998) (pos 1) full full (record { first = negsuc 999998998; step = pos 999999; many = 2000 }) refl full-form full-form refl
-
--- the full range met with itself
-pub full-met : meet full full ≡ full
-unfolding meetModel
-full-met = sym (meet-model full-form full-form) ∙ refl

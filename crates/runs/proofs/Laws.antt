@@ -10,7 +10,7 @@ use Rattle.runs.specs.Search.{meet, Partner, carry}
 use Rattle.runs.specs.Workings.{Equation, InLimits}
 use Rattle.runs.proofs.Spans.{in-span}
 use Rattle.runs.proofs.Clips.{full-form}
-use Rattle.runs.proofs.Carries.{in-whole}
+use Rattle.runs.proofs.Intervals.{in-whole}
 use Rattle.runs.proofs.Model.{is-met, is-carried}
 
 -- ---- meeting: x is in the meet iff it is in both

@@ -19,10 +19,16 @@ pub mod Solving
 pub mod Periods
 -- how large the numbers of carrying are
 pub mod Widths
--- meeting: the model is the definition
+-- meeting by the method is the definition
 pub mod Meets
--- carrying: the model is the definition
-pub mod Carries
+-- what a run is carried to, by its members
+pub mod CarryMembers
+-- the p with a partner in a residue class
+pub mod PartnerClass
+-- the p whose partners lie in an interval
+pub mod PartnerInterval
+-- carrying by the method is the definition
+pub mod CarryMethod
 -- the model of the workings is the definitions
 pub mod Model
 -- the members of a meet and of what is carried; back and forth between two runs

@@ -15,11 +15,12 @@ use Rattle.runs.specs.Run.{Run, OneForm, empty}
 use Rattle.runs.specs.Search.{meet, carry}
 use Rattle.runs.specs.Workings.{Equation, InLimits}
 use Rattle.runs.specs.Model.{Factors, remainders, factors, solved, meetModel, carryModel}
-use Rattle.runs.specs.Method.{IsFactor, Congruence, InReach, Solves, placesIn, meetBy, placesWithPartner, carryBy, upright}
+use Rattle.runs.specs.Method.{IsFactor, Carriable, Congruence, InReach, Solves, placesIn, meetBy, placesWithPartner, carryBy, upright}
 use Rattle.runs.proofs.Euclid.{Inv, start, step, done, turned}
 use Rattle.runs.proofs.Solving.{nothing, no-rest, every}
 use Rattle.runs.proofs.Meets.{IsMeet, is-meet, met, empty-left, empty-right, places-in-reach}
-use Rattle.runs.proofs.Carries.{IsCarry, is-carry, carried, empty-carried, places-reach, upright-limits, upright-above, upright-carry}
+use Rattle.runs.proofs.CarryMembers.{IsCarry, is-carry, empty-carried}
+use Rattle.runs.proofs.CarryMethod.{carried, places-reach, upright-carriable, upright-carry}
 
 -- ---- the greatest common divisor with a cofactor
 module _ {a b : ℤ} (above : pos 0 <ℤ b) where
@@ -86,8 +87,8 @@ carries {e} {q} lim o = go (eqb (q .many) 0) refl
     go : (t : Bool) → eqb (q .many) 0 ≡ t → IsCarry (e .a) (e .b) (e .c) q (cond t empty (carryBy (solved (placesWithPartner (upright e) q)) (upright e) q))
     go true t = empty-carried (e .a) (e .b) (e .c) (eqb-true (q .many) 0 t)
     go false t =
-        upright-carry e (carried (upright-limits lim) (upright-above lim) o (some t) (solved (placesWithPartner (upright e) q))
-        (solved-is (placesWithPartner (upright e) q) (places-reach (upright-limits lim) (upright-above lim) o (some t))))
+        let k : Carriable (upright e) q = upright-carriable lim o (some t) in
+        upright-carry e (carried k (solved (placesWithPartner (upright e) q)) (solved-is (placesWithPartner (upright e) q) (places-reach k)))
 
 -- so they are the definitions
 pub meet-model : {a b : Run} → OneForm a → OneForm b → meetModel a b ≡ meet a b

@@ -1,8 +1,12 @@
 -- How large the numbers are that carrying works with: within the limits each fits 64 bits.
+use mathlib.Core.Path.{_≡_, _∙_, ap}
 use mir.Syntax.{w64}
 use mir.Val.{SFits}
+use mir.Facts.{toZ-ofZ}
 use Rattle.ints.specs.Within.{Within}
 use Rattle.ints.proofs.{ℤ, _*ℤ_, [], _∷_, arith, lin, _&_, facts, within-mul, signed}
+use Rattle.ints.proofs.Signed.{held}
+use Rattle.ints.proofs.Answers.{asked, answered}
 use Rattle.runs.specs.Run.{bound}
 use Rattle.runs.specs.Workings.{Equation, InLimits}
 use Rattle.runs.specs.Method.{value}
@@ -33,9 +37,20 @@ module _ {e : Equation} (lim : InLimits e) where
     pub fits-value : SFits w64 (value e q)
     fits-value = lin (value e q ∷ []) value-within (search signed depth 20) (omega arith)
 
-    pub limits-value : division.InLimits (value e q) (e .a)
-    limits-value = record {
-      dividend = lin (value e q ∷ []) value-within (search facts depth 20) (omega arith);
-      divisor = lin (e .a ∷ []) (lim .left) (search facts depth 20) (omega arith);
-      not-zero = lim .left-not-zero;
-    }
+    -- v is what the program's value of q came to, and r what it was divided to
+    module _ (v : ℤ) (is : v ≡ value e (held q)) where
+      v-is : v ≡ value e q
+      v-is = is ∙ ap (value e) (toZ-ofZ fits-q)
+
+      limits-v : division.InLimits v (e .a)
+      limits-v = rw v-is record {
+        dividend = lin (value e q ∷ []) value-within (search facts depth 20) (omega arith);
+        divisor = lin (e .a ∷ []) (lim .left) (search facts depth 20) (omega arith);
+        not-zero = lim .left-not-zero;
+      }
+
+      pub divided-asked : division.InLimits (held v) (held (e .a))
+      divided-asked = asked limits-v
+
+      pub divided-is : (op : ℤ → ℤ → ℤ) (r : ℤ) → SFits w64 r → r ≡ op (held v) (held (e .a)) → held r ≡ op (value e q) (e .a)
+      divided-is op r fits d = toZ-ofZ fits ∙ answered limits-v op d ∙ ap (λ t. op t (e .a)) v-is

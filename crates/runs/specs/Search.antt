@@ -31,7 +31,7 @@ unfoldable pub hasPartner : ℤ → ℤ → ℤ → Run → ℤ → Bool
 unfolding any numbers
 hasPartner a b c r p = any (λ q. isEqual (a *ℤ p +ℤ b *ℤ q) c) (numbers r)
 
--- the same with quantifiers (proofs/Carries.antt: the two agree)
+-- the same with quantifiers (proofs/CarryMembers.antt: the two agree)
 pub record Partner (a b c : ℤ) (r : Run) (p : ℤ) : Type 0 where
   pub q : ℤ
   pub member : InRun r q
