@@ -19,7 +19,7 @@ use Rattle.jobs.specs.Verdict.{Verdict, planned, noFit, refused, short?, verdic
 use Rattle.jobs.specs.Sheet.{sheet}
 use Rattle.jobs.proofs.Faults.{accepted-none, fault-none}
 use Rattle.jobs.proofs.Outcomes.{too-short}
-use Rattle.families.specs.Model.{groupAt, runAt, families}
+use Rattle.families.specs.Model.{groupAt, runAt, stateAfterAll}
 use Rattle.families.specs.Plan.{emptyBy, worthBy, laidOutBy, outcomeBy, verdictBy, written, sheetBy}
 use Rattle.families.specs.Vectors.{Worked, after, markedJobs}
 use Rattle.families.proofs.Planned.{verdict-by, sheet-by}
@@ -41,10 +41,10 @@ module _ (s : List ℕ) where
   j = jobOf s
 
   abbrev g : ℕ → ℕ
-  g = groupAt (families j)
+  g = groupAt (stateAfterAll j)
 
   abbrev r : ℕ → Run
-  r = runAt (families j)
+  r = runAt (stateAfterAll j)
 
   -- what the model gives where the area is long enough, whatever stands in it
   abbrev modelVerdict : Verdict

@@ -36,11 +36,11 @@ use Rattle.jobs.proofs.Assembly.{none-without}
 use Rattle.jobs.proofs.Fields.{length-laidOut, if-planned, if-noFit, if-refused}
 use Rattle.jobs.proofs.Promises.{optimal-best, number-within as best-within, objective-within, fault, verdict-is, planned-when, lawful-of}
 use Rattle.families.specs.Family.{familyRun, choice}
-use Rattle.families.specs.Model.{groupAt, runAt, families}
+use Rattle.families.specs.Model.{groupAt, runAt, stateAfterAll}
 use Rattle.families.specs.Plan.{leadsBy, componentBy, headerRow, variableRow, groupRow, emptyBy, gainBy, chosenBy, numberBy, worthBy, variableRows, groupRows, laidOutBy, outcomeBy, verdictBy, written, sheetBy}
-use Rattle.families.proofs.Sizes.{step-within}
+use Rattle.families.proofs.FamilySizes.{step-within}
 use Rattle.families.proofs.Exact.{readOff, family-run-is, exact, family-form}
-use Rattle.families.proofs.Wholes.{objective-own}
+use Rattle.families.proofs.BestOfJob.{objective-own}
 use Rattle.families.proofs.Plans.{choice-in, best-at}
 
 -- ---- the rows of the definitions, field by field
@@ -180,10 +180,10 @@ module _ (s area : List ℕ) where
   j = jobOf s
 
   abbrev g : ℕ → ℕ
-  g = groupAt (families j)
+  g = groupAt (stateAfterAll j)
 
   abbrev r : ℕ → Run
-  r = runAt (families j)
+  r = runAt (stateAfterAll j)
 
   pub verdict-by : verdictBy s area ≡ verdict s area
   unfolding verdictBy

@@ -21,7 +21,7 @@ use Rattle.jobs.specs.Faults.{firstBroken}
 use Rattle.jobs.specs.Verdict.{Verdict, planned, noFit, refused, short?}
 use Rattle.jobs.specs.Sheet.{answerMark}
 use Rattle.families.specs.Family.{choice}
-use Rattle.families.specs.Model.{groupAt, runAt, families}
+use Rattle.families.specs.Model.{groupAt, runAt, stateAfterAll}
 
 -- ---- the groups of n variables, where g gives the lowest variable of the group of each
 unfoldable pub leadsBy : (ℕ → ℕ) → ℕ → List ℕ
@@ -90,10 +90,10 @@ outcomeBy none (some l) worth = noFit l
 outcomeBy none none worth = planned worth
 
 unfoldable pub verdictBy : List ℕ → List ℕ → Verdict
-unfolding firstBroken jobOf leads families emptyBy worthBy
+unfolding firstBroken jobOf leads stateAfterAll emptyBy worthBy
 verdictBy s area =
     let j = jobOf s in
-    let t = families j in
+    let t = stateAfterAll j in
     outcomeBy (firstBroken (short? j area) s) (emptyBy j (groupAt t) (runAt t)) (worthBy j (groupAt t) (runAt t))
 
 abbrev pub written : Verdict → List ℕ → List ℕ → List ℕ
@@ -102,5 +102,5 @@ written (noFit l) sheet area = area
 written (refused reason row) sheet area = area
 
 unfoldable pub sheetBy : List ℕ → List ℕ → List ℕ
-unfolding jobOf families verdictBy laidOutBy
-sheetBy s area = let j = jobOf s in let t = families j in written (verdictBy s area) (laidOutBy j (groupAt t) (runAt t)) area
+unfolding jobOf stateAfterAll verdictBy laidOutBy
+sheetBy s area = let j = jobOf s in let t = stateAfterAll j in written (verdictBy s area) (laidOutBy j (groupAt t) (runAt t)) area

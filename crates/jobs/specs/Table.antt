@@ -11,7 +11,7 @@ use Rattle.reasons.specs.Numbers.{numberOf, rowOf}
 use Rattle.ints.specs.Within.{Within}
 use Rattle.lists.specs.Lexicographic.{Lower}
 use Rattle.runs.specs.Run.{bound}
-use Rattle.runs.specs.Workings.{InLimits}
+use Rattle.runs.specs.Workings.{CarryLimits}
 use Rattle.jobs.specs.Bytes.{u32}
 use Rattle.jobs.specs.Component.{Numbered, groupRows}
 use Rattle.jobs.specs.Job.{Variable, Equation, Job, form, variableCount, equationCount, equationRow, variableAt, equationAt}
@@ -38,7 +38,7 @@ pub record InRange (v : Variable) : Type 0 where
 
 -- the limits of a, b and c are those of the carrying working
 abbrev pub Coefficients : Equation → Type 0
-Coefficients e = InLimits (form e)
+Coefficients e = CarryLimits (form e)
 
 -- "a count not below n, or left equal to right"
 abbrev pub Misnamed : ℕ → Equation → Type 0

@@ -17,7 +17,7 @@ use Rattle.runs.specs.declared.Run.{Run}
 use Rattle.jobs.specs.declared.Variable.{Variable}
 use Rattle.jobs.specs.Job.{jobOf, variable, variableAt, variableCount, variableRow}
 use Rattle.jobs.proofs.Lawful.{Lawful, variable-of}
-use Rattle.families.proofs.Sizes.{step-within}
+use Rattle.families.proofs.FamilySizes.{step-within}
 use Rattle.planner.specs.Choices.{groupIn, runIn, Members, NoneEmpty, numberIn, worthOf}
 use Rattle.planner.proofs.Sizes.{fits}
 use Rattle.planner.proofs.Choosing.{number-within}

@@ -15,14 +15,14 @@ use Rattle.runs.specs.declared.congruence.Solutions.{Solutions}
 use Rattle.runs.specs.declared.congruence.Solutions.the-variants.{Nothing, Every}
 use Rattle.runs.specs.Run.{Run, OneForm, empty, full, bound}
 use Rattle.runs.specs.Search.{Partner}
-use Rattle.runs.specs.Workings.{Equation, InLimits}
-use Rattle.runs.specs.Method.{Carriable, imageInRange, Class, Interval, InInterval, Clippable, Places, InReach, AllSolutions, Solves, stride, span, clip, value, placesWithPartner, numbersAt, partners, image, carryBy, upright}
+use Rattle.runs.specs.Workings.{Equation, CarryLimits}
+use Rattle.runs.specs.Method.{Carriable, imageInRange, Class, Interval, InInterval, Clippable, Places, InReach, AllSolutions, Solves, stride, span, clip, partnerValue, placesWithPartner, numbersAt, partners, image, carryBy, upright}
 use Rattle.runs.proofs.Members.{empty-form, not-in-empty}
-use Rattle.runs.proofs.Spans.{in-span, stride-above, first-within, last-within, stride-within}
+use Rattle.runs.proofs.ClassOfRun.{in-span, stride-above, first-within, last-within, stride-within}
 use Rattle.runs.proofs.Intervals.{in-common, either, greater-over, smaller-under, in-whole}
-use Rattle.runs.proofs.Clips.{IsClip, is-clip}
-use Rattle.runs.proofs.Widths.{value-within}
-use Rattle.runs.proofs.Periods.{not-before, period-within}
+use Rattle.runs.proofs.ClassInInterval.{IsClip, is-clip}
+use Rattle.runs.proofs.CarryWidths.{value-within}
+use Rattle.runs.proofs.SolutionPeriod.{not-before, period-within}
 use Rattle.runs.proofs.CarryMembers.{IsCarry}
 use Rattle.runs.proofs.PartnerClass.{Paired, at-place, G-above, T-above, paired-class}
 use Rattle.runs.proofs.PartnerInterval.{in-image}
@@ -109,10 +109,10 @@ module _ {e : Equation} {q : Run} (k : Carriable e q) where
       }
         where
           first : Within 3000000000000000 (ps .first)
-          first = floor-within (value e start) (e .a) (k .limits .left-not-zero) (value-within (k .limits) start-within)
+          first = floor-within (partnerValue e start) (e .a) (k .limits .left-not-zero) (value-within (k .limits) start-within)
 
-          up : (x : ℤ) → Within bound x → Within 3000000000000000 (ceilDiv (value e x) (e .a))
-          up x w = ceil-within (value e x) (e .a) (k .limits .left-not-zero) (value-within (k .limits) w)
+          up : (x : ℤ) → Within bound x → Within 3000000000000000 (ceilDiv (partnerValue e x) (e .a))
+          up x w = ceil-within (partnerValue e x) (e .a) (k .limits .left-not-zero) (value-within (k .limits) w)
 
           low : Within 3000000000000000 (ends .low)
           low = either (Within 3000000000000000) (ltZ (image e (span q) .low) (negsuc 999999999)) (lin₀ [] (search facts depth 20) (omega arith))
@@ -163,20 +163,20 @@ module _ {e : Equation} {q : Run} (k : Carriable e q) where
   pub places-reach : InReach (placesWithPartner e q)
   places-reach = record {
     factor = lin (e .b ∷ stride q ∷ []) (within-mul (k .limits .right) stride-small) (search facts depth 20) (omega arith);
-    value = lin (value e (q .first) ∷ []) (value-within (k .limits) (first-within (k .form) (k .some))) (search facts depth 20) (omega arith);
+    value = lin (partnerValue e (q .first) ∷ []) (value-within (k .limits) (first-within (k .form) (k .some))) (search facts depth 20) (omega arith);
     above = k .above;
     modulus = lin (e .a ∷ []) (k .limits .left) (search facts depth 20) (omega arith);
   }
 
 -- ---- the same equation with a above 0
-module _ {e : Equation} (lim : InLimits e) where
-  upright-limits : InLimits (upright e)
-  upright-limits = either {A = Equation} InLimits (ltZ (e .a) (pos 0)) turned lim
+module _ {e : Equation} (lim : CarryLimits e) where
+  upright-limits : CarryLimits (upright e)
+  upright-limits = either {A = Equation} CarryLimits (ltZ (e .a) (pos 0)) turned lim
     where
       some : (x : ℤ) → x ≢ pos 0 → negℤ x ≢ pos 0
       some x h z = h (lin (x ∷ []) z (search facts depth 20) (omega arith))
 
-      turned : InLimits (record { a = negℤ (e .a); b = negℤ (e .b); c = negℤ (e .c) })
+      turned : CarryLimits (record { a = negℤ (e .a); b = negℤ (e .b); c = negℤ (e .c) })
       turned = record {
         left = lin (e .a ∷ []) (lim .left) (search facts depth 20) (omega arith);
         left-not-zero = some (e .a) (lim .left-not-zero);

@@ -12,8 +12,8 @@ use Rattle.ints.proofs.Divides.{floor-exact}
 use Rattle.runs.specs.Run.{Run}
 use Rattle.runs.specs.Workings.{Equation}
 use Rattle.runs.specs.Method.{Class, Carriable, AllSolutions, stride, placesWithPartner}
-use Rattle.runs.proofs.Spans.{stride-above}
-use Rattle.runs.proofs.Periods.{period-above, at-first, modulus-divides, period-divides}
+use Rattle.runs.proofs.ClassOfRun.{stride-above}
+use Rattle.runs.proofs.SolutionPeriod.{period-above, at-first, modulus-divides, period-divides}
 
 -- the sign of a number: its size is sign times it
 record Sign (b : ℤ) : Type 0 where

@@ -1,5 +1,5 @@
 -- Meeting and carrying as exhaustive search. `runOf` reads a run off any list; that the lists here are runs, and so the
--- numbers of `meet` and `carry` just those that are searched for, is proved: `in-meet` and `in-carry` (proofs/Laws.antt).
+-- numbers of `meet` and `carry` just those that are searched for, is proved: `in-meet` and `in-carry` (proofs/MeetAndCarry.antt).
 use mathlib.Core.Path.{_≡_}
 use mathlib.Core.Bool.{Bool}
 use mathlib.Core.List.{List, [], _∷_}

@@ -4,8 +4,8 @@ ghost use mathlib.Core.Path.{_≡_};
 ghost use lib.Signed.{_≤ℤ_};
 ghost use Rattle.ints.specs.Within.{Within};
 ghost use Rattle.runs.specs.Run.{bound};
-ghost use Rattle.runs.specs.Workings.{InLimits, isCoefficient, inLimits};
-ghost use Rattle.runs.specs.Method.{upright, Carriable, value, placesWithPartner, AllSolutions, numbersAt, span, partners, stepOf, between, image, imageInRange, carryBy};
+ghost use Rattle.runs.specs.Workings.{CarryLimits, isCoefficient, carryLimits};
+ghost use Rattle.runs.specs.Method.{upright, Carriable, partnerValue, placesWithPartner, AllSolutions, numbersAt, span, partners, stepOf, between, image, imageInRange, carryBy};
 ghost use Rattle.runs.specs.declared.congruence.Solutions.the-variants.{Every};
 use crate::Equation;
 use crate::Run;
@@ -16,7 +16,7 @@ use crate::congruence::Congruence;
 impl Equation {
     /// Are a, b and c within their limits?
     pub fn in_limits(self) -> bool
-        ensures { λ r. ⌜ r ≡ inLimits self ⌝ }
+        ensures { λ r. ⌜ r ≡ carryLimits self ⌝ }
     {
         if is_coefficient(self.a) {
             if is_coefficient(self.b) {
@@ -28,7 +28,7 @@ impl Equation {
 
     // The same equation with a above 0.
     pub(crate) fn upright(self) -> Equation
-        requires { ⌜ InLimits self ⌝ }
+        requires { ⌜ CarryLimits self ⌝ }
         ensures { λ r. ⌜ r ≡ upright self ⌝ }
     {
         if self.a < 0 {
@@ -49,7 +49,7 @@ impl Equation {
     {
         Congruence {
             u: self.b * q.stride(),
-            v: self.value(q.first),
+            v: self.partner_value(q.first),
             d: self.a,
         }
     }
@@ -77,7 +77,7 @@ impl Equation {
         ensures { λ r. ⌜ r ≡ partners self q j ⌝ }
     {
         Class {
-            first: ints::quotient(self.value(q.numbers_at(j).first), self.a),
+            first: ints::quotient(self.partner_value(q.numbers_at(j).first), self.a),
             step: self.step_of(q, j),
         }
     }
@@ -102,17 +102,17 @@ impl Equation {
         self.image(q.span()).common(Run::full().span())
     }
 
-    fn value(self, q: i64) -> i64
-        requires { ⌜ InLimits self ⌝ }
+    fn partner_value(self, q: i64) -> i64
+        requires { ⌜ CarryLimits self ⌝ }
         requires { ⌜ Within bound q ⌝ }
-        ensures { λ r. ⌜ r ≡ value self q ⌝ }
+        ensures { λ r. ⌜ r ≡ partnerValue self q ⌝ }
     {
         self.c - self.b * q
     }
 
     // The p whose partners lie in an interval: a positive b turns low and high round.
     fn image(self, i: Interval) -> Interval
-        requires { ⌜ InLimits self ⌝ }
+        requires { ⌜ CarryLimits self ⌝ }
         requires { ⌜ Within bound (i .low) ⌝ }
         requires { ⌜ Within bound (i .high) ⌝ }
         ensures { λ r. ⌜ r ≡ image self i ⌝ }
@@ -126,14 +126,14 @@ impl Equation {
 
     // The p between the partners of two q: the low end is rounded up, the high end down.
     fn between(self, from: i64, to: i64) -> Interval
-        requires { ⌜ InLimits self ⌝ }
+        requires { ⌜ CarryLimits self ⌝ }
         requires { ⌜ Within bound from ⌝ }
         requires { ⌜ Within bound to ⌝ }
         ensures { λ r. ⌜ r ≡ between self from to ⌝ }
     {
         Interval {
-            low: ints::ceiling(self.value(from), self.a),
-            high: ints::quotient(self.value(to), self.a),
+            low: ints::ceiling(self.partner_value(from), self.a),
+            high: ints::quotient(self.partner_value(to), self.a),
         }
     }
 }

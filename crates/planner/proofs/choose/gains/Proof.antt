@@ -16,7 +16,7 @@ use Rattle.runs.specs.declared.Run.{Run}
 use Rattle.jobs.specs.Job.{Job, jobOf, variable, variableCount}
 use Rattle.jobs.proofs.Lawful.{variables-of}
 use Rattle.families.specs.Plan.{gainBy}
-use Rattle.families.proofs.Sizes.{step-within}
+use Rattle.families.proofs.FamilySizes.{step-within}
 use Rattle.planner.specs.Choices.{groupIn, runIn}
 use Rattle.planner.proofs.Sizes.{held-element, held-step, crossable}
 use Rattle.planner.proofs.Adding.{fits-product, fits-total, total-is, n-at-most, variable-asked, weight-within, held-weight, sums-within}

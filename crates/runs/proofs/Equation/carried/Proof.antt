@@ -12,8 +12,8 @@ use Rattle.runs.specs.declared.congruence.Solutions.the-variants.{Every}
 use Rattle.runs.specs.Run.{Run, empty}
 use Rattle.runs.specs.Workings.{Equation}
 use Rattle.runs.specs.Method.{Class, Interval, Clippable, Carriable, AllSolutions, span, clip, numbersAt, placesWithPartner, partners, imageInRange, carryBy}
-use Rattle.runs.proofs.Spans.{last-within}
-use Rattle.runs.proofs.Widths.{fits-q}
+use Rattle.runs.proofs.ClassOfRun.{last-within}
+use Rattle.runs.proofs.CarryWidths.{fits-q}
 use Rattle.runs.proofs.CarryMethod.{carry-places, carry-fair}
 use Rattle.runs.proofs.Equation.carried.Statement.{statement}
 use Rattle.runs.proofs.Equation.carried.Tie as tie

@@ -7,8 +7,8 @@ use Rattle.ints.specs.Within.{Within}
 use Rattle.runs.specs.Run.{Run, OneForm, full, bound}
 use Rattle.runs.specs.Workings.{Equation}
 use Rattle.runs.specs.Method.{Interval, Carriable, common, span, image}
-use Rattle.runs.proofs.Spans.{first-within, last-within}
-use Rattle.runs.proofs.Clips.{full-form}
+use Rattle.runs.proofs.ClassOfRun.{first-within, last-within}
+use Rattle.runs.proofs.ClassInInterval.{full-form}
 use Rattle.runs.proofs.Equation.image_in_range.Statement.{statement}
 use Rattle.runs.proofs.Equation.image_in_range.Tie as tie
 

@@ -6,14 +6,14 @@ use mir.Val.{SFits}
 use mir.Facts.{toZ-ofZ}
 use Rattle.ints.specs.Within.{Within}
 use Rattle.ints.specs.Floor.{floorDiv}
-use Rattle.ints.specs.Division as division
+use Rattle.ints.specs.Division.{DivisionLimits}
 use Rattle.ints.proofs.{ℤ, _≤ℤ_}
 use Rattle.ints.proofs.Signed.{held}
 use Rattle.runs.specs.Run.{Run, bound}
 use Rattle.runs.specs.Workings.{Equation}
-use Rattle.runs.specs.Method.{Class, Carriable, AllSolutions, span, numbersAt, value, placesWithPartner, partners}
-use Rattle.runs.proofs.Clips.{same-class}
-use Rattle.runs.proofs.Widths.{fits-q, divided-asked, divided-is}
+use Rattle.runs.specs.Method.{Class, Carriable, AllSolutions, span, numbersAt, partnerValue, placesWithPartner, partners}
+use Rattle.runs.proofs.ClassInInterval.{same-class}
+use Rattle.runs.proofs.CarryWidths.{fits-q, divided-asked, divided-is}
 use Rattle.runs.proofs.CarryMethod.{carry-places, start-within}
 use Rattle.runs.proofs.Equation.partners.Statement.{statement}
 use Rattle.runs.proofs.Equation.partners.Tie as tie
@@ -27,11 +27,11 @@ module _ {e : Equation} {q : Run} {j : Class} (p : Carriable e q × (AllSolution
   start-asked = rw (at-is, toZ-ofZ (fits-q (p .0 .limits) within)) within
 
   -- v is the value at its first number
-  module _ (v : ℤ) (is : v ≡ value e (held (at .first))) where
-    there : v ≡ value e (held (numbersAt q j .first))
-    there = is ∙ ap (λ c. value e (held (c .first))) at-is
+  module _ (v : ℤ) (is : v ≡ partnerValue e (held (at .first))) where
+    there : v ≡ partnerValue e (held (numbersAt q j .first))
+    there = is ∙ ap (λ c. partnerValue e (held (c .first))) at-is
 
-    limits-asked : division.InLimits (held v) (held (e .a))
+    limits-asked : DivisionLimits (held v) (held (e .a))
     limits-asked = divided-asked (p .0 .limits) within v there
 
     first-is : (r : ℤ) → SFits w64 r → r ≡ floorDiv (held v) (held (e .a)) → held r ≡ partners e q j .first
@@ -40,8 +40,8 @@ module _ {e : Equation} {q : Run} {j : Class} (p : Carriable e q × (AllSolution
 numbers-at-requires : tie.Need-numbers-at-requires
 numbers-at-requires c κs = let (k, (E, l)) = c .pre in (k .form, (k .some, carry-places k E))
 
-value-requires : tie.Need-value-requires
-value-requires c κs =
+partner-value-requires : tie.Need-partner-value-requires
+partner-value-requires c κs =
     let n = c .before in
     (n .before .pre .0 .limits, start-asked (n .before .pre) (n .numbers-at .result) (n .numbers-at .ensures))
 
@@ -49,7 +49,7 @@ quotient-requires : tie.Need-quotient-requires
 quotient-requires c κs =
     let v = c .before in
     let n = v .before .before in
-    limits-asked (n .before .pre) (n .numbers-at .result) (n .numbers-at .ensures) (v .value .result) (v .value .ensures)
+    limits-asked (n .before .pre) (n .numbers-at .result) (n .numbers-at .ensures) (v .partner-value .result) (v .partner-value .ensures)
 
 step-of-requires : tie.Need-step-of-requires
 step-of-requires c κs = search needs
@@ -60,8 +60,8 @@ returns c =
     let v = g .before .before in
     let n = v .before .before in
     same-class
-    (first-is (n .before .pre) (n .numbers-at .result) (n .numbers-at .ensures) (v .value .result) (v .value .ensures) (g .quotient .result) record { sfits = g .quotient .ok } (g .quotient .ensures))
+    (first-is (n .before .pre) (n .numbers-at .result) (n .numbers-at .ensures) (v .partner-value .result) (v .partner-value .ensures) (g .quotient .result) record { sfits = g .quotient .ok } (g .quotient .ensures))
     (toZ-ofZ record { sfits = c .step-of .ok } ∙ c .step-of .ensures)
 
 pub partners-spec : {M : Type 1} → statement M
-partners-spec = tie.close (tie.spec numbers-at-requires value-requires quotient-requires step-of-requires returns)
+partners-spec = tie.close (tie.spec numbers-at-requires partner-value-requires quotient-requires step-of-requires returns)

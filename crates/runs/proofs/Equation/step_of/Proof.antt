@@ -7,17 +7,17 @@ use mir.Val.{SFits, toZ}
 use mir.Facts.{toZ-ofZ}
 use Rattle.ints.specs.Within.{Within}
 use Rattle.ints.specs.Floor.{floorDiv}
-use Rattle.ints.specs.Division as division
+use Rattle.ints.specs.Division.{DivisionLimits, limit}
 use Rattle.ints.proofs.{ℤ, pos, natAbs, _*ℤ_, [], _∷_, arith, lin, _&_, facts, signed}
 use Rattle.ints.proofs.Floor.{floor-within}
 use Rattle.ints.proofs.Answers.{fits-limit, asked, answered}
 use Rattle.runs.specs.Run.{Run}
 use Rattle.runs.specs.Workings.{Equation}
 use Rattle.runs.specs.Method.{Class, Carriable, AllSolutions, stride, placesWithPartner, stepOf}
-use Rattle.runs.proofs.Periods.{period-above, period-within}
+use Rattle.runs.proofs.SolutionPeriod.{period-above, period-within}
 use Rattle.runs.proofs.CarryMethod.{stride-small, product-small, parts-above}
 use Rattle.ints.proofs.Signed.{held, cast}
-use Rattle.runs.proofs.Widths.{fits-b}
+use Rattle.runs.proofs.CarryWidths.{fits-b}
 use Rattle.runs.proofs.Equation.step_of.Statement.{statement}
 use Rattle.runs.proofs.Equation.step_of.Tie as tie
 
@@ -26,7 +26,7 @@ module _ {e : Equation} {q : Run} {j : Class} (p : Carriable e q × AllSolutions
   abbrev G : ℤ
   G = floorDiv (e .a) (j .step)
 
-  limits-a : division.InLimits (e .a) (j .step)
+  limits-a : DivisionLimits (e .a) (j .step)
   limits-a = record {
     dividend = lin (e .a ∷ []) (p .0 .limits .left) (search facts depth 20) (omega arith);
     divisor = lin (e .a ∷ j .step ∷ []) (p .0 .limits .left & period-within (p .1) (p .0 .above) & period-above (p .1)) (search facts depth 20) (omega arith);
@@ -47,7 +47,7 @@ module _ {e : Equation} {q : Run} {j : Class} (p : Carriable e q × AllSolutions
       fits-t : SFits w64 t
       fits-t = rw t-is (lin (stride q ∷ []) (stride-small (p .0)) (search signed depth 20) (omega arith))
 
-      product-within : Within division.limit (pos n *ℤ t)
+      product-within : Within limit (pos n *ℤ t)
       product-within = rw (n-is, t-is) (lin (pos (natAbs (e .b)) ∷ stride q ∷ []) (product-small (p .0)) (search facts depth 20) (omega arith))
 
       product-asked : SFits w64 (toZ w64 n *ℤ held t)
@@ -57,14 +57,14 @@ module _ {e : Equation} {q : Run} {j : Class} (p : Carriable e q × AllSolutions
         g-is : g ≡ G
         g-is = answered limits-a floorDiv eq
 
-        limits-g : division.InLimits (pos n *ℤ t) g
+        limits-g : DivisionLimits (pos n *ℤ t) g
         limits-g = record {
           dividend = product-within;
           divisor = rw g-is (floor-within (e .a) (j .step) (limits-a .not-zero) (limits-a .dividend));
           not-zero = rw g-is (lin (G ∷ []) (parts-above (p .0) (p .1)) (search facts depth 20) (omega arith));
         }
 
-        limits-asked : division.InLimits (held (toZ w64 n *ℤ held t)) (held g)
+        limits-asked : DivisionLimits (held (toZ w64 n *ℤ held t)) (held g)
         limits-asked = rw (n-cast, toZ-ofZ fits-t) (asked limits-g)
 
         result-is : (r : ℤ) → SFits w64 r → r ≡ floorDiv (held (toZ w64 n *ℤ held t)) (held g) → held r ≡ stepOf e q j
