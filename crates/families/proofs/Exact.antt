@@ -22,10 +22,10 @@ use Rattle.jobs.specs.Lawful.{LawfulJob}
 use Rattle.jobs.proofs.Components.{in-leads, lowest-le, lowest-self}
 use Rattle.jobs.proofs.Assembly.{component-length, fits-iff}
 use Rattle.families.specs.Family.{member, IsFamily}
-use Rattle.families.specs.Model.{State, groupAt, runAt, families}
+use Rattle.families.specs.Model.{State, groupAt, runAt, stateAfterAll}
 use Rattle.families.specs.Invariant.{Invariant}
 use Rattle.families.proofs.Invariants.{invariant}
-use Rattle.families.proofs.Listings.{lowest-is, ownRun, own-inside, own-outside, listed, listed-at, solutions-listed}
+use Rattle.families.proofs.SolutionsAreMembers.{lowest-is, ownRun, own-inside, own-outside, listed, listed-at, solutions-listed}
 
 -- ---- lists: what is read off them
 -- from the first to the second
@@ -162,12 +162,12 @@ unfolding familyRun
 family-run-is j i = refl
 
 module _ (j : Job) (lawful : LawfulJob j) where
-  pub last-invariant : Invariant j (length (j .equations)) (families j)
-  unfolding families
+  pub last-invariant : Invariant j (length (j .equations)) (stateAfterAll j)
+  unfolding stateAfterAll
   last-invariant = invariant j lawful (length (j .equations)) (omega arith)
 
   -- it has the groups and the families of the definitions
-  pub exact : (i : ℕ) → i < length (j .variables) → (groupAt (families j) i ≡ lowest j i) × (runAt (families j) i ≡ familyRun j i)
+  pub exact : (i : ℕ) → i < length (j .variables) → (groupAt (stateAfterAll j) i ≡ lowest j i) × (runAt (stateAfterAll j) i ≡ familyRun j i)
   exact i h = (
     last-invariant .groups i h ∙ sym (lowest-is j i),
     run-is last-invariant (omega (arith, h, lowest-le j i)) (lowest-self j i) i h refl ∙ sym (family-run-is j i),
@@ -181,9 +181,9 @@ module _ (j : Job) (lawful : LawfulJob j) where
     pub are-families : IsFamily j l
     are-families = let (b, e) = in-leads j l .0 lead in is-family last-invariant b e
 
-    pub many-fits : fits (componentJob j l) ≡ runAt (families j) l .many
+    pub many-fits : fits (componentJob j l) ≡ runAt (stateAfterAll j) l .many
     many-fits = let (b, e) = in-leads j l .0 lead in fits-is last-invariant b e
 
     -- there is no solution exactly where the model's family is empty
-    pub empty-iff : (runAt (families j) l .many ≡ 0) ↔ ((x : List ℤ) → ¬ IsSolution (componentJob j l) x)
+    pub empty-iff : (runAt (stateAfterAll j) l .many ≡ 0) ↔ ((x : List ℤ) → ¬ IsSolution (componentJob j l) x)
     empty-iff = (λ z. fits-iff (componentJob j l) .0 (many-fits ∙ z), λ f. sym many-fits ∙ fits-iff (componentJob j l) .1 f)

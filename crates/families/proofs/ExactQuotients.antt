@@ -198,13 +198,6 @@ module _ {a b c : ℤ} {R S : Run} (o : Across a b c R S) where
       step : a *ℤ negℤ (R .step) +ℤ b *ℤ negℤ (S .step) ≡ pos 0
       step = lin (a ∷ b ∷ R .step ∷ S .step ∷ []) (o .step) (search facts depth 20) (omega arith)
 
-  pub across-back : Across b a c S R
-  across-back = record {
-    first = lin (a ∷ b ∷ c ∷ R .first ∷ S .first ∷ []) (o .first) (search facts depth 20) (omega arith);
-    step = lin (a ∷ b ∷ R .step ∷ S .step ∷ []) (o .step) (search facts depth 20) (omega arith);
-    many = sym (o .many);
-  }
-
 -- a partner is the only one, so all of S is in the run where the partners are
 pub across-in : {a b c : ℤ} {R Q S : Run} → b ≢ pos 0 → Across a b c R S → ((x : ℤ) → InRun R x → Partner a b c Q x) → (y : ℤ) → InRun S y → InRun Q y
 across-in {a} {b} {c} {R} {Q} {S} nz o partner y h = subst (InRun Q) (same ∙ sym (h .is)) (p .member)

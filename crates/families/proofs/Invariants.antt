@@ -14,13 +14,13 @@ use Rattle.jobs.specs.Job.{Job, form, equation}
 use Rattle.jobs.specs.Component.{merged, lowestBy}
 use Rattle.jobs.specs.Table.{Coefficients}
 use Rattle.jobs.specs.Lawful.{LawfulJob}
-use Rattle.families.specs.Model.{State, groupAt, runAt, Indices, runAfter, kept, change, next, familiesBy}
+use Rattle.families.specs.Model.{State, groupAt, runAt, Indices, runAfter, kept, change, next, stateAfter}
 use Rattle.families.specs.Invariant.{Invariant}
-use Rattle.families.proofs.Kept.{Kept, kept-is}
-use Rattle.families.proofs.Labels.{leftGroup, rightGroup, next-label}
-use Rattle.families.proofs.Advance.{Named, advance}
-use Rattle.families.proofs.Changes.{same-label, redundant, changed}
-use Rattle.families.proofs.Begins.{start-lengths, begins}
+use Rattle.families.proofs.OneEquation.{Kept, kept-is}
+use Rattle.families.proofs.GroupLabels.{leftGroup, rightGroup, next-label}
+use Rattle.families.proofs.InvariantStep.{Named, advance}
+use Rattle.families.proofs.StateStep.{same-label, redundant, changed}
+use Rattle.families.proofs.StartState.{start-lengths, begins}
 
 -- a group and a run for each variable
 pub record Sized (j : Job) (s : State) : Type 0 where
@@ -110,12 +110,12 @@ module _ {j : Job} {m : ℕ} {s : State} (named : Named j m) (known : Reached j 
 
 -- ---- all of them, in their order
 module _ (j : Job) (lawful : LawfulJob j) where
-  pub reached : (m : ℕ) → m ≤ length (j .equations) → Reached j m (familiesBy j m)
-  unfolding familiesBy
+  pub reached : (m : ℕ) → m ≤ length (j .equations) → Reached j m (stateAfter j m)
+  unfolding stateAfter
   reached zero h = record { sized = record { groups = start-lengths j .0; runs = start-lengths j .1 }; invariant = begins j (lawful .each-variable) }
   reached (suc m) h =
       let f = lawful .each-equation m h in
       next-reached (record { left = f .left; right = f .right }) (reached m (omega arith)) (f .coefficients)
 
-  pub invariant : (m : ℕ) → m ≤ length (j .equations) → Invariant j m (familiesBy j m)
+  pub invariant : (m : ℕ) → m ≤ length (j .equations) → Invariant j m (stateAfter j m)
   invariant m h = reached m h .invariant

@@ -7,13 +7,13 @@ use Rattle.runs.specs.declared.Run.{Run}
 use Rattle.runs.specs.Run.{InRun, OneForm}
 use Rattle.runs.specs.Search.{meet, Partner, carry}
 use Rattle.runs.specs.declared.Equation.{Equation}
-use Rattle.runs.specs.Workings.{InLimits}
-use Rattle.runs.proofs.Laws.{joined-form, in-joined}
+use Rattle.runs.specs.Workings.{CarryLimits}
+use Rattle.runs.proofs.MeetAndCarry.{joined-form, in-joined}
 use Rattle.families.specs.FamilyRun.{FamilyRun, turned, upward, indexOf, strideIn, across}
 use Rattle.families.proofs.FamilyRuns.{in-upward, upward-form, one-form-moves}
 use Rattle.families.proofs.ExactQuotients.{Indexed, indexed, turned-indexed, Across, is-across, partner-indexed}
 
-module _ {e : Equation} (lim : InLimits e) {P Q : Run} (f : FamilyRun P) (g : FamilyRun Q) where
+module _ {e : Equation} (lim : CarryLimits e) {P Q : Run} (f : FamilyRun P) (g : FamilyRun Q) where
   -- the p that are joined, upwards
   abbrev R : Run
   R = meet (upward P) (carry (e .a) (e .b) (e .c) (upward Q))

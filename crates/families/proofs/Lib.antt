@@ -1,8 +1,8 @@
--- The theorems, in the order in which they rest on each other. What they say to a reader stands in Invariants, Exact, Wholes,
+-- The theorems, in the order in which they rest on each other. What they say to a reader stands in Invariants, Exact, BestOfJob,
 -- Plans, Planned, Marked and Sheets; the planner's proofs also go by the steps before them.
 
 -- lines that rise, fall or are level
-pub mod Lines
+pub mod LinearFunctions
 -- a variable's run in its family, upwards and downwards
 pub mod FamilyRuns
 -- where the numbers of one run and their partners stand in another: exact quotients
@@ -10,33 +10,33 @@ pub mod ExactQuotients
 -- an equation between the runs of two families
 pub mod JoinedRuns
 -- part of a family: the members at some of its indices
-pub mod Parts
+pub mod Subfamily
 -- an equation inside a group
-pub mod Cycles
+pub mod CycleStep
 -- an equation between two groups
-pub mod Crossings
+pub mod JoinStep
 -- what one equation leaves, in one form for both
-pub mod Kept
+pub mod OneEquation
 -- the groups' labels, one equation more
-pub mod Labels
+pub mod GroupLabels
 -- one equation more, in general
-pub mod Advance
+pub mod InvariantStep
 -- the two ways in which an equation changes the runs
-pub mod Changes
+pub mod StateStep
 -- before any equation
-pub mod Begins
+pub mod StartState
 -- the invariant after any number of equations
 pub mod Invariants
 -- the solutions of a group, in order, are the members of its family
-pub mod Listings
+pub mod SolutionsAreMembers
 -- how large the numbers of a family are
-pub mod Sizes
+pub mod FamilySizes
 -- the model ends in the definitions
 pub mod Exact
 -- the best of one group: the last of its family where the gain is above 0, and the first elsewhere
-pub mod Choices
+pub mod BestOfGroup
 -- the best of the whole job: the best of each group, put together
-pub mod Wholes
+pub mod BestOfJob
 -- the best of a lawful job, by what the model ends in
 pub mod Plans
 -- the choice and the sheet of the model are those of the definitions

@@ -36,11 +36,11 @@ use Rattle.jobs.proofs.Assembly.{none-without}
 use Rattle.jobs.proofs.Fields.{Agree, same-layout, if-planned, if-noFit, if-refused}
 use Rattle.jobs.proofs.Promises.{fault, verdict-is, planned-when, lawful-of}
 use Rattle.families.specs.Family.{choice}
-use Rattle.families.specs.Model.{groupAt, runAt, families}
+use Rattle.families.specs.Model.{groupAt, runAt, stateAfterAll}
 use Rattle.families.specs.Plan.{leadsBy, componentBy, emptyBy, gainBy, chosenBy, numberBy, worthBy, findingsBy, modelFindings, modelEmpty, verdictBy, sheetBy}
-use Rattle.families.proofs.Sizes.{step-within}
+use Rattle.families.proofs.FamilySizes.{step-within}
 use Rattle.families.proofs.Exact.{readOff, family-run-is, exact, family-form}
-use Rattle.families.proofs.Wholes.{objective-own}
+use Rattle.families.proofs.BestOfJob.{objective-own}
 use Rattle.families.proofs.Plans.{choice-in, best-at}
 
 -- ---- of a lawful job, where g and r give for each variable what the definitions do
@@ -156,7 +156,7 @@ module _ (s area : List ℕ) where
   verdict-by = same-outcome (fault s area) cases ∙ sym (verdict-is s area)
     where
       cases : fault s area ≡ none → (modelEmpty j ≡ firstWithout j) × (firstWithout j ≡ none → modelFindings j .worth ≡ objective j (best j))
-      cases e = let f = lawful-of s area e in (empty-by j f (groupAt (families j)) (runAt (families j)) (exact j f), worth-by j f (groupAt (families j)) (runAt (families j)) (exact j f) _ (λ i h. refl))
+      cases e = let f = lawful-of s area e in (empty-by j f (groupAt (stateAfterAll j)) (runAt (stateAfterAll j)) (exact j f), worth-by j f (groupAt (stateAfterAll j)) (runAt (stateAfterAll j)) (exact j f) _ (λ i h. refl))
 
   pub sheet-by : sheetBy s area ≡ sheet s area
   unfolding sheetBy areaAfter
@@ -166,7 +166,7 @@ module _ (s area : List ℕ) where
       laid w e =
           let (o, h) = planned-when s area w e in
           let f = lawful-of s area o in
-          same-layout (findings-by j f (groupAt (families j)) (runAt (families j)) (exact j f) _ (λ i h. refl) (h .0))
+          same-layout (findings-by j f (groupAt (stateAfterAll j)) (runAt (stateAfterAll j)) (exact j f) _ (λ i h. refl) (h .0))
 
       go : (v : Verdict) → verdict s area ≡ v → areaAfter (modelFindings j) v area ≡ sheet s area
       go (planned w) e = ap (λ t. t ++ drop (length t) area) (laid w e) ∙ sym (if-planned s area e)

@@ -15,10 +15,10 @@ use Rattle.jobs.proofs.Lawful.{lawful-named}
 use Rattle.jobs.proofs.Components.{lead-in}
 use Rattle.jobs.proofs.Assembly.{assembled, assembled-at, component-length}
 use Rattle.families.specs.Family.{choice}
-use Rattle.families.specs.Model.{runAt, families}
+use Rattle.families.specs.Model.{runAt, stateAfterAll}
 use Rattle.families.proofs.Exact.{are-families, many-fits}
-use Rattle.families.proofs.Choices.{chosen-is}
-use Rattle.families.proofs.Wholes.{choiceIn, plan-optimal, plan-best}
+use Rattle.families.proofs.BestOfGroup.{chosen-is}
+use Rattle.families.proofs.BestOfJob.{choiceIn, plan-optimal, plan-best}
 
 module _ (j : Job) (lawful : LawfulJob j) where
   module _ (fit : (l : ℕ) → l ∈ leads j → fits (componentJob j l) ≢ 0) where
@@ -37,7 +37,7 @@ module _ (j : Job) (lawful : LawfulJob j) where
         ∙ ap (λ k. number (base c) i +ℤ number (step c) i *ℤ pos k) (sym (choice-in (lowest j i) (lead-in j i h)))
 
   -- by what the model ends in
-  module _ (some : (l : ℕ) → l ∈ leads j → runAt (families j) l .many ≢ 0) where
+  module _ (some : (l : ℕ) → l ∈ leads j → runAt (stateAfterAll j) l .many ≢ 0) where
     fit : (l : ℕ) → l ∈ leads j → fits (componentJob j l) ≢ 0
     fit l m e = some l m (sym (many-fits j lawful l m) ∙ e)
 

@@ -33,10 +33,10 @@ use Rattle.jobs.proofs.Writing.{within-holds}
 use Rattle.jobs.proofs.Fields.{number-back, base-back, step-back, fits-back, chosen-back, gain-back, laidOut-back, if-planned}
 use Rattle.jobs.proofs.Promises.{optimal-best, number-within, planned-when, lawful-of, gives-fits}
 use Rattle.families.specs.Family.{member, IsFamily}
-use Rattle.families.proofs.Sizes.{first-within, step-within, many-within}
+use Rattle.families.proofs.FamilySizes.{first-within, step-within, many-within}
 use Rattle.families.proofs.Exact.{readOff, family-run-is, family-form, are-families}
-use Rattle.families.proofs.Choices.{choice-below, member-solution, solution-member, members-once}
-use Rattle.families.proofs.Wholes.{objective-own, objective-inside}
+use Rattle.families.proofs.BestOfGroup.{choice-below, member-solution, solution-member, members-once}
+use Rattle.families.proofs.BestOfJob.{objective-own, objective-inside}
 use Rattle.families.proofs.Plans.{choice-in, best-at}
 use Rattle.families.proofs.Planned.{slope-within}
 

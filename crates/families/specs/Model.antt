@@ -40,9 +40,9 @@ runAt s i = getD (s .runs) i empty
 abbrev pub interval : ℤ → ℤ → Run
 interval low high = cond (ltZ high low) empty (progression low (pos 1) (natAbs (high -ℤ low)))
 
-unfoldable pub start : Job → State
+unfoldable pub startState : Job → State
 unfolding table meetModel
-start j =
+startState j =
     let n = length (j .variables) in
     record { groups = upTo n; runs = table (λ i. meetModel full (interval (variable j i .low) (variable j i .high))) n }
 
@@ -54,12 +54,12 @@ abbrev pub through : Run → Run → Run
 through r indices = cond (eqb (indices .many) 0) empty (membersAt r indices)
 
 -- ---- an equation inside a group (01's ring). At p = P .first + P .step·k and q = Q .first + Q .step·k it says
--- coefficient·k = value.
+-- coefficient·k = residual.
 abbrev pub coefficient : Form → Run → Run → ℤ
 coefficient e P Q = e .a *ℤ P .step +ℤ e .b *ℤ Q .step
 
-abbrev pub value : Form → Run → Run → ℤ
-value e P Q = e .c -ℤ (e .a *ℤ P .first +ℤ e .b *ℤ Q .first)
+abbrev pub residual : Form → Run → Run → ℤ
+residual e P Q = e .c -ℤ (e .a *ℤ P .first +ℤ e .b *ℤ Q .first)
 
 -- the index k alone, if it is one of a family of many members
 abbrev pub alone : ℤ → Run
@@ -76,8 +76,8 @@ candidate v d many = cond (isEqual (floorMod v d) (pos 0)) (inRange (floorDiv v 
 abbrev pub cycle : Form → Run → Run → Option Run
 cycle e P Q =
     cond (isEqual (coefficient e P Q) (pos 0))
-    (cond (isEqual (value e P Q) (pos 0)) none (some empty))
-    (some (candidate (value e P Q) (coefficient e P Q) (P .many)))
+    (cond (isEqual (residual e P Q) (pos 0)) none (some empty))
+    (some (candidate (residual e P Q) (coefficient e P Q) (P .many)))
 
 -- ---- an equation between two groups
 -- the indices into the family of the left variable, and into that of the right
@@ -86,9 +86,9 @@ pub record Indices : Type 0 where
   pub right : Run
 
 -- the numbers of the left variable that some number of the right completes
-unfoldable pub common : Form → Run → Run → Run
+unfoldable pub commonNumbers : Form → Run → Run → Run
 unfolding meetModel carryModel
-common e P Q = meetModel (upward P) (carryModel e (upward Q))
+commonNumbers e P Q = meetModel (upward P) (carryModel e (upward Q))
 
 -- where the numbers of R stand in r: exact quotients
 abbrev pub indicesIn : Run → Run → Run
@@ -113,13 +113,13 @@ abbrev pub join : Form → Run → Run → Run → Bool → Indices
 join e P Q R leftLeads = cond (eqb (R .many) 0) (record { left = empty; right = empty }) (directed leftLeads (places e P Q R))
 
 -- ---- one equation: what it leaves of the groups l and r of its variables, whose runs are P and Q. None where it is redundant.
-abbrev pub both : Option Run → Option Indices
-both none = none
-both (some s) = some (record { left = s; right = s })
+abbrev pub bothSides : Option Run → Option Indices
+bothSides none = none
+bothSides (some s) = some (record { left = s; right = s })
 
 unfoldable pub kept : Form → ℕ → ℕ → Run → Run → Option Indices
-unfolding common floorDiv floorMod
-kept e l r P Q = cond (eqb l r) (both (cycle e P Q)) (some (join e P Q (common e P Q) (ltb l r)))
+unfolding commonNumbers floorDiv floorMod
+kept e l r P Q = cond (eqb l r) (bothSides (cycle e P Q)) (some (join e P Q (commonNumbers e P Q) (ltb l r)))
 
 -- the run of a variable in group g after that
 abbrev pub runAfter : ℕ → ℕ → Indices → ℕ → Run → Run
@@ -141,12 +141,12 @@ next e s =
     change l r (kept (form e) l r (runAt s (e .left)) (runAt s (e .right))) s
 
 -- ---- after the first m equations, in their order
-unfoldable pub familiesBy : Job → ℕ → State
-unfolding start next
-familiesBy j zero = start j
-familiesBy j (suc m) = let s = familiesBy j m in next (equation j m) s
+unfoldable pub stateAfter : Job → ℕ → State
+unfolding startState next
+stateAfter j zero = startState j
+stateAfter j (suc m) = let s = stateAfter j m in next (equation j m) s
 
 -- and after all of them
-unfoldable pub families : Job → State
-unfolding familiesBy
-families j = familiesBy j (length (j .equations))
+unfoldable pub stateAfterAll : Job → State
+unfolding stateAfter
+stateAfterAll j = stateAfter j (length (j .equations))

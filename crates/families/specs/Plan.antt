@@ -19,7 +19,7 @@ use Rattle.jobs.specs.Faults.{firstBroken}
 use Rattle.jobs.specs.Verdict.{Verdict, outcome, short?}
 use Rattle.jobs.specs.Sheet.{areaAfter}
 use Rattle.families.specs.Family.{choice}
-use Rattle.families.specs.Model.{groupAt, runAt, families}
+use Rattle.families.specs.Model.{groupAt, runAt, stateAfterAll}
 
 -- ---- the groups of n variables, where g gives the lowest variable of the group of each
 unfoldable pub leadsBy : (ℕ → ℕ) → ℕ → List ℕ
@@ -69,16 +69,16 @@ module _ (n : ℕ) (w : ℕ → ℤ) (g : ℕ → ℕ) (r : ℕ → Run) where
 
 -- ---- of a job, with the families that the model ends in
 abbrev pub modelFindings : Job → Findings
-modelFindings j = let t = families j in findingsBy (length (j .variables)) (λ i. variable j i .weight) (groupAt t) (runAt t)
+modelFindings j = let t = stateAfterAll j in findingsBy (length (j .variables)) (λ i. variable j i .weight) (groupAt t) (runAt t)
 
 abbrev pub modelEmpty : Job → Option ℕ
-modelEmpty j = let t = families j in emptyBy (length (j .variables)) (groupAt t) (runAt t)
+modelEmpty j = let t = stateAfterAll j in emptyBy (length (j .variables)) (groupAt t) (runAt t)
 
 -- of the bytes of a job and the area as lent
 unfoldable pub verdictBy : List ℕ → List ℕ → Verdict
-unfolding firstBroken jobOf leads families emptyBy worthBy
+unfolding firstBroken jobOf leads stateAfterAll emptyBy worthBy
 verdictBy s area = let j = jobOf s in outcome (firstBroken (short? j area) s) (modelEmpty j) (modelFindings j .worth)
 
 unfoldable pub sheetBy : List ℕ → List ℕ → List ℕ
-unfolding jobOf families verdictBy areaAfter leadsBy componentBy gainBy chosenBy numberBy worthBy
+unfolding jobOf stateAfterAll verdictBy areaAfter leadsBy componentBy gainBy chosenBy numberBy worthBy
 sheetBy s area = areaAfter (modelFindings (jobOf s)) (verdictBy s area) area

@@ -24,7 +24,7 @@ use Rattle.jobs.specs.Verdict.{Verdict, planned, noFit, refused}
 use Rattle.jobs.specs.Demands.{baseOn, stepOn, groupOn, fitsOn}
 use Rattle.jobs.specs.Vectors.{Vector, fitted, vectors}
 use Rattle.families.specs.Family.{choice}
-use Rattle.families.specs.Model.{State, groupAt, runAt, interval, through, candidate, cycle, Indices, common, directed, kept, families}
+use Rattle.families.specs.Model.{State, groupAt, runAt, interval, through, candidate, cycle, Indices, commonNumbers, directed, kept, stateAfterAll}
 
 abbrev run : ℤ → ℤ → ℕ → Run
 run first step many = record { first = first; step = step; many = many }
@@ -226,19 +226,19 @@ abbrev pub labels : State → List ℕ
 labels s = keep (λ i. eqb (groupAt s i) i) (upTo (length (s .groups)))
 
 abbrev given : Worked → Answer × (State × (ℕ × ℕ))
-given v = let s = families (jobOf (v .job)) in (checked (v .job), (s, (length (labels s), componentCount (jobOf (v .job)))))
+given v = let s = stateAfterAll (jobOf (v .job)) in (checked (v .job), (s, (length (labels s), componentCount (jobOf (v .job)))))
 
 abbrev expected : Worked → Answer × (State × (ℕ × ℕ))
 expected v = (accepted, (record { groups = v .groups; runs = v .runs }, (v .g, v .g)))
 
 marked-computed : map given markedJobs ≡ map expected markedJobs
-unfolding checked families jobOf leads keep unsigned table
+unfolding checked stateAfterAll jobOf leads keep unsigned table
 marked-computed = refl
 
 -- the job check accepts each of them, the model gives what was worked out, and as many groups as the definition
 pub marked : (v : Worked) → v ∈ markedJobs →
-    (checked (v .job) ≡ accepted) × ((families (jobOf (v .job)) ≡ record { groups = v .groups; runs = v .runs }) ×
-    ((length (labels (families (jobOf (v .job)))) ≡ v .g) × (componentCount (jobOf (v .job)) ≡ v .g)))
+    (checked (v .job) ≡ accepted) × ((stateAfterAll (jobOf (v .job)) ≡ record { groups = v .groups; runs = v .runs }) ×
+    ((length (labels (stateAfterAll (jobOf (v .job)))) ≡ v .g) × (componentCount (jobOf (v .job)) ≡ v .g)))
 marked v h =
     let e = same-values given expected marked-computed h in
     (ap (λ p. p .0) e, (ap (λ p. p .1 .0) e, (ap (λ p. p .1 .1 .0) e, ap (λ p. p .1 .1 .1) e)))
@@ -259,15 +259,15 @@ abbrev groupsOn : Vector → List ℕ
 groupsOn v = upTo (u16 (v .after) 6)
 
 abbrev modelled : Vector → State × List ℕ
-modelled v = let s = families (jobOf (v .job)) in (s, map (groupOn (v .after)) (labels s))
+modelled v = let s = stateAfterAll (jobOf (v .job)) in (s, map (groupOn (v .after)) (labels s))
 
 fitted-computed : map modelled fitted ≡ map (λ v. (onSheet v, groupsOn v)) fitted
-unfolding families jobOf unsigned keep place table
+unfolding stateAfterAll jobOf unsigned keep place table
 fitted-computed = refl
 
 -- the model gives what stands on the sheet, where its groups, in the order of their lowest variables, are numbered from 0
 pub fitted-model : (v : Vector) → v ∈ fitted →
-    (families (jobOf (v .job)) ≡ onSheet v) × (map (groupOn (v .after)) (labels (families (jobOf (v .job)))) ≡ groupsOn v)
+    (stateAfterAll (jobOf (v .job)) ≡ onSheet v) × (map (groupOn (v .after)) (labels (stateAfterAll (jobOf (v .job)))) ≡ groupsOn v)
 fitted-model v h = let e = same-values modelled (λ v. (onSheet v, groupsOn v)) fitted-computed h in (ap (λ p. p .0) e, ap (λ p. p .1) e)
 
 -- the lowest variable of the first group without a solution
@@ -290,13 +290,13 @@ unfoldable pub sought : List Vector
 unfolding keep
 sought = keep (λ v. isSought (v .verdict)) vectors
 
-sought-computed : map (λ v. firstEmpty (families (jobOf (v .job)))) sought ≡ map (λ v. named (v .verdict)) sought
-unfolding sought families jobOf unsigned firstOf keep table
+sought-computed : map (λ v. firstEmpty (stateAfterAll (jobOf (v .job)))) sought ≡ map (λ v. named (v .verdict)) sought
+unfolding sought stateAfterAll jobOf unsigned firstOf keep table
 sought-computed = refl
 
 -- the model has an empty group exactly where the verdict is no fit, and the first of them is the one that is named
-pub sought-model : (v : Vector) → v ∈ sought → firstEmpty (families (jobOf (v .job))) ≡ named (v .verdict)
-sought-model v h = same-values (λ v. firstEmpty (families (jobOf (v .job)))) (λ v. named (v .verdict)) sought-computed h
+pub sought-model : (v : Vector) → v ∈ sought → firstEmpty (stateAfterAll (jobOf (v .job))) ≡ named (v .verdict)
+sought-model v h = same-values (λ v. firstEmpty (stateAfterAll (jobOf (v .job)))) (λ v. named (v .verdict)) sought-computed h
 
 -- ---- pieces
 -- a low above its high, a low that is its high, and −2..3
@@ -382,8 +382,8 @@ unfolding kept
 joins-none = refl
 
 -- document 01: 1,000,000·c0 − 999,999·c1 = 1 over the full range
-longest : common (by (pos 1000000) (negℤ (pos 999999)) (pos 1)) full full ≡ run (negℤ (pos 999998999)) (pos 999999) 2000
-unfolding common
+longest : commonNumbers (by (pos 1000000) (negℤ (pos 999999)) (pos 1)) full full ≡ run (negℤ (pos 999998999)) (pos 999999) 2000
+unfolding commonNumbers
 longest = refl
 
 -- a gain, none and a loss

@@ -11,7 +11,7 @@ use Rattle.reasons.specs.Numbers.{numberOf, rowOf}
 use Rattle.jobs.specs.declared.Checked.{Checked}
 use Rattle.jobs.specs.declared.Checked.the-variants.{Accepted, Refused}
 use Rattle.runs.specs.Run.{bound}
-use Rattle.runs.specs.Workings.{inLimits}
+use Rattle.runs.specs.Workings.{carryLimits}
 use Rattle.runs.proofs.Refusals.{in-limits-iff}
 use Rattle.jobs.specs.Bytes.{u32}
 use Rattle.jobs.specs.Decide.{tested, below?, atMost?, equal?, within?, by, both, either, not?, list?, firstOf}
@@ -34,7 +34,7 @@ inRange? v =
     (both (within? bound (v .low)) (both (within? bound (v .high)) (within? 1000000 (v .weight))))
 
 abbrev pub coefficients? : (e : Equation) → Dec (Coefficients e)
-coefficients? e = tested (inLimits (form e)) (in-limits-iff (form e))
+coefficients? e = tested (carryLimits (form e)) (in-limits-iff (form e))
 
 abbrev pub misnamed? : (n : ℕ) (e : Equation) → Dec (Misnamed n e)
 misnamed? n e = either (atMost? n (e .left)) (either (atMost? n (e .right)) (equal? (e .left) (e .right)))

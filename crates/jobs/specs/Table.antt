@@ -11,7 +11,7 @@ use Rattle.ints.specs.Within.{Within}
 use Rattle.lists.specs.Members.{_∈_}
 use Rattle.lists.specs.Table.{table, upTo}
 use Rattle.runs.specs.Run.{bound}
-use Rattle.runs.specs.Workings.{InLimits}
+use Rattle.runs.specs.Workings.{CarryLimits}
 use Rattle.jobs.specs.Bytes.{unsigned, u32}
 use Rattle.jobs.specs.Layout.{groupRowsAt}
 use Rattle.jobs.specs.Component.{Numbered}
@@ -39,7 +39,7 @@ pub record InRange (v : Variable) : Type 0 where
 
 -- the limits of a, b and c are those of the carrying working
 abbrev pub Coefficients : Equation → Type 0
-Coefficients e = InLimits (form e)
+Coefficients e = CarryLimits (form e)
 
 -- "a count not below n, or left equal to right"
 abbrev pub Misnamed : ℕ → Equation → Type 0

@@ -9,8 +9,8 @@ use Rattle.runs.specs.declared.Run.{Run}
 use Rattle.runs.specs.Run.{bound}
 use Rattle.families.specs.FamilyRun.{FamilyRun}
 use Rattle.families.specs.Family.{choice}
-use Rattle.families.proofs.Choices.{choice-below}
-use Rattle.families.proofs.Sizes.{member-within}
+use Rattle.families.proofs.BestOfGroup.{choice-below}
+use Rattle.families.proofs.FamilySizes.{member-within}
 use Rattle.planner.specs.Choice.{numberAt}
 use Rattle.solver.proofs.Sizes.{fits}
 

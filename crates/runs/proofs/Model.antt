@@ -13,13 +13,14 @@ use Rattle.ints.proofs.Order.{nat-nonneg, abs-nonneg}
 use Rattle.runs.specs.declared.congruence.Solutions.the-variants.{Nothing, Every}
 use Rattle.runs.specs.Run.{Run, OneForm, empty}
 use Rattle.runs.specs.Search.{meet, carry}
-use Rattle.runs.specs.Workings.{Equation, InLimits}
+use Rattle.runs.specs.Workings.{Equation, CarryLimits}
 use Rattle.runs.specs.Model.{Factors, remainders, factors, solved, meetModel, carryModel}
-use Rattle.runs.specs.Method.{IsFactor, Congruence, InReach, Solves, placesIn, meetBy, placesWithPartner, carryBy, upright}
+use Rattle.runs.specs.Method.{IsFactor, Carriable, Congruence, InReach, Solves, placesIn, meetBy, placesWithPartner, carryBy, upright}
 use Rattle.runs.proofs.Euclid.{Inv, start, step, done, turned}
-use Rattle.runs.proofs.Solving.{nothing, no-rest, every}
-use Rattle.runs.proofs.Meets.{IsMeet, is-meet, met, empty-left, empty-right, places-in-reach}
-use Rattle.runs.proofs.Carries.{IsCarry, is-carry, carried, empty-carried, places-reach, upright-limits, upright-above, upright-carry}
+use Rattle.runs.proofs.CongruenceSolutions.{nothing, no-rest, every}
+use Rattle.runs.proofs.MeetMethod.{IsMeet, is-meet, met, empty-left, empty-right, places-in-reach}
+use Rattle.runs.proofs.CarryMembers.{IsCarry, is-carry, empty-carried}
+use Rattle.runs.proofs.CarryMethod.{carried, places-reach, upright-carriable, upright-carry}
 
 -- ---- the greatest common divisor with a cofactor
 module _ {a b : ℤ} (above : pos 0 <ℤ b) where
@@ -79,26 +80,26 @@ meets {a} {b} o o′ = left (eqb (a .many) 0) refl
     left true t = empty-left b (eqb-true (a .many) 0 t)
     left false t = right (some t) (eqb (b .many) 0) refl
 
-carries : {e : Equation} {q : Run} → InLimits e → OneForm q → IsCarry (e .a) (e .b) (e .c) q (carryModel e q)
+carries : {e : Equation} {q : Run} → CarryLimits e → OneForm q → IsCarry (e .a) (e .b) (e .c) q (carryModel e q)
 unfolding carryModel
 carries {e} {q} lim o = go (eqb (q .many) 0) refl
   where
     go : (t : Bool) → eqb (q .many) 0 ≡ t → IsCarry (e .a) (e .b) (e .c) q (cond t empty (carryBy (solved (placesWithPartner (upright e) q)) (upright e) q))
     go true t = empty-carried (e .a) (e .b) (e .c) (eqb-true (q .many) 0 t)
     go false t =
-        upright-carry e (carried (upright-limits lim) (upright-above lim) o (some t) (solved (placesWithPartner (upright e) q))
-        (solved-is (placesWithPartner (upright e) q) (places-reach (upright-limits lim) (upright-above lim) o (some t))))
+        let k : Carriable (upright e) q = upright-carriable lim o (some t) in
+        upright-carry e (carried k (solved (placesWithPartner (upright e) q)) (solved-is (placesWithPartner (upright e) q) (places-reach k)))
 
 -- so they are the definitions
 pub meet-model : {a b : Run} → OneForm a → OneForm b → meetModel a b ≡ meet a b
 meet-model o o′ = is-meet o (meets o o′)
 
-pub carry-model : {e : Equation} {q : Run} → InLimits e → OneForm q → carryModel e q ≡ carry (e .a) (e .b) (e .c) q
+pub carry-model : {e : Equation} {q : Run} → CarryLimits e → OneForm q → carryModel e q ≡ carry (e .a) (e .b) (e .c) q
 carry-model lim o = is-carry (carries lim o)
 
 -- and the definitions have the numbers that they search for
 pub is-met : {a b : Run} → OneForm a → OneForm b → IsMeet a b (meet a b)
 is-met {a} {b} o o′ = subst (IsMeet a b) (meet-model o o′) (meets o o′)
 
-pub is-carried : {e : Equation} {q : Run} → InLimits e → OneForm q → IsCarry (e .a) (e .b) (e .c) q (carry (e .a) (e .b) (e .c) q)
+pub is-carried : {e : Equation} {q : Run} → CarryLimits e → OneForm q → IsCarry (e .a) (e .b) (e .c) q (carry (e .a) (e .b) (e .c) q)
 is-carried {e} {q} lim o = subst (IsCarry (e .a) (e .b) (e .c) q) (carry-model lim o) (carries lim o)

@@ -1,13 +1,11 @@
 //! The methods of `Equation`: its limits, and the parts of carrying, most of them for an a above 0.
 
 ghost use mathlib.Core.Path.{_≡_};
-ghost use Prim.Native.Nat.{_≤_};
-ghost use lib.IntN.{pos};
-ghost use lib.Signed.{_<ℤ_};
+ghost use lib.Signed.{_≤ℤ_};
 ghost use Rattle.ints.specs.Within.{Within};
-ghost use Rattle.runs.specs.Run.{OneForm, bound};
-ghost use Rattle.runs.specs.Workings.{InLimits, isCoefficient, inLimits};
-ghost use Rattle.runs.specs.Method.{upright, value, placesWithPartner, Period, stepOf, between, image, AllSolutions, carryBy};
+ghost use Rattle.runs.specs.Run.{bound};
+ghost use Rattle.runs.specs.Workings.{CarryLimits, isCoefficient, carryLimits};
+ghost use Rattle.runs.specs.Method.{upright, Carriable, partnerValue, placesWithPartner, AllSolutions, numbersAt, span, partners, stepOf, between, image, imageInRange, carryBy};
 ghost use Rattle.runs.specs.declared.congruence.Solutions.the-variants.{Every};
 use crate::Equation;
 use crate::Run;
@@ -18,7 +16,7 @@ use crate::congruence::Congruence;
 impl Equation {
     /// Are a, b and c within their limits?
     pub fn in_limits(self) -> bool
-        ensures { λ r. ⌜ r ≡ inLimits self ⌝ }
+        ensures { λ r. ⌜ r ≡ carryLimits self ⌝ }
     {
         if is_coefficient(self.a) {
             if is_coefficient(self.b) {
@@ -30,7 +28,7 @@ impl Equation {
 
     // The same equation with a above 0.
     pub(crate) fn upright(self) -> Equation
-        requires { ⌜ InLimits self ⌝ }
+        requires { ⌜ CarryLimits self ⌝ }
         ensures { λ r. ⌜ r ≡ upright self ⌝ }
     {
         if self.a < 0 {
@@ -46,14 +44,12 @@ impl Equation {
 
     // The places in a run of the numbers with a partner.
     pub(crate) fn places(self, q: Run) -> Congruence
-        requires { ⌜ InLimits self ⌝ }
-        requires { ⌜ OneForm q ⌝ }
-        requires { ⌜ 1 ≤ q .many ⌝ }
+        requires { ⌜ Carriable self q ⌝ }
         ensures { λ r. ⌜ r ≡ placesWithPartner self q ⌝ }
     {
         Congruence {
             u: self.b * q.stride(),
-            v: self.value(q.first),
+            v: self.partner_value(q.first),
             d: self.a,
         }
     }
@@ -61,10 +57,7 @@ impl Equation {
     // The run of the p, from the places of their partners. No place is before the first, so that where the first is past
     // the end there is none; a low end that is reached only past the high end is told by `clip`.
     pub(crate) fn carried(self, q: Run, j: Class) -> Run
-        requires { ⌜ InLimits self ⌝ }
-        requires { ⌜ pos 0 <ℤ self .a ⌝ }
-        requires { ⌜ OneForm q ⌝ }
-        requires { ⌜ 1 ≤ q .many ⌝ }
+        requires { ⌜ Carriable self q ⌝ }
         requires { ⌜ AllSolutions (placesWithPartner self q) j ⌝ }
         ensures { λ r. ⌜ r ≡ carryBy (Every j) self q ⌝ }
     {
@@ -73,38 +66,53 @@ impl Equation {
         if ends.high < start {
             return Run::empty();
         }
-        let first = ints::quotient(self.value(start), self.a);
-        let step = self.step_of(q.stride(), j.step);
-        let within = self.image(ends).common(Run::full().span());
-        Class {
-            first: first,
-            step: step,
-        }.clip(within)
+        self.partners(q, j).clip(self.image_in_range(q))
     }
 
-    fn value(self, q: i64) -> i64
-        requires { ⌜ InLimits self ⌝ }
+    // The class of the p, from the places of their partners, the first of which is in the run.
+    fn partners(self, q: Run, j: Class) -> Class
+        requires { ⌜ Carriable self q ⌝ }
+        requires { ⌜ AllSolutions (placesWithPartner self q) j ⌝ }
+        requires { ⌜ numbersAt q j .first ≤ℤ span q .high ⌝ }
+        ensures { λ r. ⌜ r ≡ partners self q j ⌝ }
+    {
+        Class {
+            first: ints::quotient(self.partner_value(q.numbers_at(j).first), self.a),
+            step: self.step_of(q, j),
+        }
+    }
+
+    // From one p to the next, where q moves by a stride and has a partner once a period.
+    fn step_of(self, q: Run, j: Class) -> i64
+        requires { ⌜ Carriable self q ⌝ }
+        requires { ⌜ AllSolutions (placesWithPartner self q) j ⌝ }
+        ensures { λ r. ⌜ r ≡ stepOf self q j ⌝ }
+    {
+        ints::quotient(
+            ints::size(self.b) as i64 * q.stride(),
+            ints::quotient(self.a, j.step),
+        )
+    }
+
+    // The p within the range whose partners lie from the first to the last number of a run.
+    fn image_in_range(self, q: Run) -> Interval
+        requires { ⌜ Carriable self q ⌝ }
+        ensures { λ r. ⌜ r ≡ imageInRange self q ⌝ }
+    {
+        self.image(q.span()).common(Run::full().span())
+    }
+
+    fn partner_value(self, q: i64) -> i64
+        requires { ⌜ CarryLimits self ⌝ }
         requires { ⌜ Within bound q ⌝ }
-        ensures { λ r. ⌜ r ≡ value self q ⌝ }
+        ensures { λ r. ⌜ r ≡ partnerValue self q ⌝ }
     {
         self.c - self.b * q
     }
 
-    // From one p to the next, where q moves by a stride and has a partner once a period.
-    fn step_of(self, stride: i64, period: i64) -> i64
-        requires { ⌜ InLimits self ⌝ }
-        requires { ⌜ Period self stride period ⌝ }
-        ensures { λ r. ⌜ r ≡ stepOf self stride period ⌝ }
-    {
-        ints::quotient(
-            ints::size(self.b) as i64 * stride,
-            ints::quotient(self.a, period),
-        )
-    }
-
     // The p whose partners lie in an interval: a positive b turns low and high round.
     fn image(self, i: Interval) -> Interval
-        requires { ⌜ InLimits self ⌝ }
+        requires { ⌜ CarryLimits self ⌝ }
         requires { ⌜ Within bound (i .low) ⌝ }
         requires { ⌜ Within bound (i .high) ⌝ }
         ensures { λ r. ⌜ r ≡ image self i ⌝ }
@@ -118,14 +126,14 @@ impl Equation {
 
     // The p between the partners of two q: the low end is rounded up, the high end down.
     fn between(self, from: i64, to: i64) -> Interval
-        requires { ⌜ InLimits self ⌝ }
+        requires { ⌜ CarryLimits self ⌝ }
         requires { ⌜ Within bound from ⌝ }
         requires { ⌜ Within bound to ⌝ }
         ensures { λ r. ⌜ r ≡ between self from to ⌝ }
     {
         Interval {
-            low: ints::ceiling(self.value(from), self.a),
-            high: ints::quotient(self.value(to), self.a),
+            low: ints::ceiling(self.partner_value(from), self.a),
+            high: ints::quotient(self.partner_value(to), self.a),
         }
     }
 }

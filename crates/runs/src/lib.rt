@@ -4,7 +4,7 @@
 
 ghost use mathlib.Core.Path.{_≡_};
 ghost use Rattle.runs.specs.Run.{OneForm};
-ghost use Rattle.runs.specs.Workings.{InLimits, answerOf, RefusedUnless, meeting, carrying};
+ghost use Rattle.runs.specs.Workings.{CarryLimits, workingAnswerOf, RefusedUnless, meeting, carrying};
 use reasons::Reason;
 
 // a run's one form, meeting and carrying
@@ -41,8 +41,8 @@ pub enum Working {
 
 /// Two runs meet in the run of the numbers in both. Refused where one of them is not in its one form.
 pub fn meeting(a: Run, b: Run) -> Working
-    ensures { λ r. ⌜ answerOf r ≡ meeting a b ⌝ }
-    ensures { λ r. ⌜ RefusedUnless (OneForm a × OneForm b) (answerOf r) ⌝ }
+    ensures { λ r. ⌜ workingAnswerOf r ≡ meeting a b ⌝ }
+    ensures { λ r. ⌜ RefusedUnless (OneForm a × OneForm b) (workingAnswerOf r) ⌝ }
 {
     if a.is_one_form() {
         if b.is_one_form() {
@@ -56,8 +56,8 @@ pub fn meeting(a: Run, b: Run) -> Working
 /// Refused where the run is not in its one form, where a or b is 0 or larger than 1,000,000 in size, or where c is larger
 /// than 2,000,000,000,000,000.
 pub fn carrying(e: Equation, q: Run) -> Working
-    ensures { λ r. ⌜ answerOf r ≡ carrying e q ⌝ }
-    ensures { λ r. ⌜ RefusedUnless (InLimits e × OneForm q) (answerOf r) ⌝ }
+    ensures { λ r. ⌜ workingAnswerOf r ≡ carrying e q ⌝ }
+    ensures { λ r. ⌜ RefusedUnless (CarryLimits e × OneForm q) (workingAnswerOf r) ⌝ }
 {
     if e.in_limits() {
         if q.is_one_form() {

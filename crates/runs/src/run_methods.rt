@@ -4,7 +4,7 @@ ghost use mathlib.Core.Path.{_≡_};
 ghost use Prim.Native.Nat.{_≤_};
 ghost use Rattle.runs.specs.Run.{OneForm, isOneForm, full, empty};
 ghost use Rattle.runs.specs.Search.{meet, carry};
-ghost use Rattle.runs.specs.Workings.{InLimits};
+ghost use Rattle.runs.specs.Workings.{CarryLimits};
 ghost use Rattle.runs.specs.Method.{placesIn, stride, span, numbersAt, Places};
 use crate::Equation;
 use crate::Run;
@@ -96,7 +96,7 @@ impl Run {
     /// are known to be within their limits; `carrying` takes any.
     pub fn carry(self, e: Equation) -> Run
         requires { ⌜ OneForm self ⌝ }
-        requires { ⌜ InLimits e ⌝ }
+        requires { ⌜ CarryLimits e ⌝ }
         ensures { λ r. ⌜ r ≡ carry (e .a) (e .b) (e .c) self ⌝ }
     {
         if self.many == 0 {

@@ -8,7 +8,7 @@ use lib.ListN.{length, getD}
 use Rattle.runs.specs.declared.Run.{Run}
 use Rattle.runs.specs.Run.{empty, full}
 use Rattle.runs.specs.Search.{meet}
-use Rattle.runs.specs.Workings.{InLimits}
+use Rattle.runs.specs.Workings.{CarryLimits}
 use Rattle.families.specs.FamilyRun.{FamilyRun}
 use Rattle.jobs.specs.declared.Equation.{Equation}
 use Rattle.jobs.specs.Job.{Job, jobOf, form, variable, equation, noEquation}
@@ -85,7 +85,7 @@ module _ {s : List ℕ} {n m : ℕ} {b : List Bounds} {k : ℕ} {groups : List �
   is : e ≡ equation with k
   is = a .row ∙ ap (λ es. getD es k noEquation) (sym (same-equations (jobOf s) b))
 
-  pub limits : InLimits (form e)
+  pub limits : CarryLimits (form e)
   limits = stepping.limits with is-lawful k below groups runs (a .follows) e is
 
   pub left-family : FamilyRun (getD runs (e .left) empty)

@@ -11,14 +11,14 @@ use Rattle.ints.proofs.Floor.{floor-within}
 use Rattle.runs.specs.declared.Run.{Run}
 use Rattle.runs.specs.declared.Equation.{Equation}
 use Rattle.runs.specs.Search.{meet, carry}
-use Rattle.runs.specs.Workings.{InLimits}
-use Rattle.runs.proofs.Clips.{one-less}
+use Rattle.runs.specs.Workings.{CarryLimits}
+use Rattle.runs.proofs.ClassInInterval.{one-less}
 use Rattle.families.specs.FamilyRun.{FamilyRun, upward, ratio, across}
 use Rattle.families.proofs.FamilyRuns.{one-form-moves, one-form-family}
 use Rattle.families.proofs.ExactQuotients.{Indexed, across-in, across-moves}
 use Rattle.families.proofs.JoinedRuns.{join-form, in-join, join-partners, left, right}
 use Rattle.families.specs.Model.{indicesIn}
-use Rattle.families.proofs.Sizes.{many-within}
+use Rattle.families.proofs.FamilySizes.{many-within}
 use Rattle.solver.specs.Widths.{Turnable, Crossable}
 use Rattle.solver.proofs.Sizes.{crossable}
 
@@ -51,7 +51,7 @@ module _ {r R : Run} (f : FamilyRun r) (w : Crossable R) (some : 1 ≤ R .many) 
           (i .inside n (omega (arith, e)) & many-within f & ap (λ t. indicesIn r R .step *ℤ t) (one-less (R .many) n e)) (search facts depth 20) (omega arith)
 
 -- the numbers of the left variable that are joined, and their partners
-module _ {e : Equation} (lim : InLimits e) {P Q : Run} (f : FamilyRun P) (g : FamilyRun Q) where
+module _ {e : Equation} (lim : CarryLimits e) {P Q : Run} (f : FamilyRun P) (g : FamilyRun Q) where
   abbrev R : Run
   R = meet (upward P) (carry (e .a) (e .b) (e .c) (upward Q))
 

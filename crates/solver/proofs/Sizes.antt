@@ -10,7 +10,7 @@ use Rattle.ints.proofs.{ℤ, pos, [], _∷_, arith, lin, _&_, facts, signed}
 use Rattle.ints.proofs.Signed.{held}
 use Rattle.runs.specs.declared.Run.{Run}
 use Rattle.families.specs.FamilyRun.{FamilyRun}
-use Rattle.families.proofs.Sizes.{first-within, step-within, last-within}
+use Rattle.families.proofs.FamilySizes.{first-within, step-within, last-within}
 use Rattle.solver.specs.Widths.{Turnable, Crossable}
 
 -- a 64-bit number

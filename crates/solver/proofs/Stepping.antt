@@ -8,18 +8,18 @@ use lib.ListN.{length, getD}
 use Rattle.runs.specs.declared.Run.{Run}
 use Rattle.runs.specs.Run.{empty, full}
 use Rattle.runs.specs.Search.{meet}
-use Rattle.runs.specs.Workings.{InLimits}
+use Rattle.runs.specs.Workings.{CarryLimits}
 use Rattle.families.specs.FamilyRun.{FamilyRun}
 use Rattle.jobs.specs.declared.Equation.{Equation}
 use Rattle.jobs.specs.Job.{Job, form, variable, equation}
 use Rattle.jobs.specs.Component.{merged, lowestBy, lowest}
 use Rattle.jobs.specs.Lawful.{LawfulJob, LawfulEquation}
 use Rattle.jobs.proofs.Components.{lowestBy-le}
-use Rattle.families.specs.Model.{State, groupAt, runAt, Indices as Pair, interval, start, runAfter, kept, change, next, familiesBy, families}
+use Rattle.families.specs.Model.{State, groupAt, runAt, Indices as Pair, interval, startState, runAfter, kept, change, next, stateAfter, stateAfterAll}
 use Rattle.jobs.specs.Family.{familyRun}
-use Rattle.families.proofs.Begins.{began-is, group-at, run-at}
+use Rattle.families.proofs.StartState.{began-is, group-at, run-at}
 use Rattle.families.proofs.Invariants.{Reached, reached, invariant, change-none, group-after, run-after}
-use Rattle.families.proofs.Labels.{next-label}
+use Rattle.families.proofs.GroupLabels.{next-label}
 use Rattle.families.proofs.Exact.{exact}
 use Rattle.solver.specs.declared.join.Indices.{Indices}
 use Rattle.solver.specs.Groups.{Labelled, Merges, Labels, Apart}
@@ -28,19 +28,19 @@ use Rattle.solver.proofs.Merging.{merged-same}
 
 -- the arrays have at each variable what the model has after k equations
 pub record Follows (j : Job) (k : ℕ) (groups : List ℕ) (runs : List Run) : Type 0 where
-  pub group : (i : ℕ) → i < length (j .variables) → getD groups i 0 ≡ groupAt (familiesBy j k) i
-  pub run : (i : ℕ) → i < length (j .variables) → getD runs i empty ≡ runAt (familiesBy j k) i
+  pub group : (i : ℕ) → i < length (j .variables) → getD groups i 0 ≡ groupAt (stateAfter j k) i
+  pub run : (i : ℕ) → i < length (j .variables) → getD runs i empty ≡ runAt (stateAfter j k) i
 
 -- ---- before any equation
 module _ (j : Job) (f : LawfulJob j) where
-  begins-start : familiesBy j 0 ≡ start j
-  unfolding familiesBy
+  begins-start : stateAfter j 0 ≡ startState j
+  unfolding stateAfter
   begins-start = refl
 
-  start-group : (i : ℕ) → i < length (j .variables) → groupAt (familiesBy j 0) i ≡ i
+  start-group : (i : ℕ) → i < length (j .variables) → groupAt (stateAfter j 0) i ≡ i
   start-group i h = ap (λ s. groupAt s i) begins-start ∙ group-at j i h
 
-  start-run : (i : ℕ) → i < length (j .variables) → runAt (familiesBy j 0) i ≡ meet full (interval (variable j i .low) (variable j i .high))
+  start-run : (i : ℕ) → i < length (j .variables) → runAt (stateAfter j 0) i ≡ meet full (interval (variable j i .low) (variable j i .high))
   start-run i h =
       let v = f .each-variable i h in
       ap (λ s. runAt s i) begins-start ∙ run-at j i h ∙ began-is (variable j i .low) (variable j i .high) (v .low) (v .high)
@@ -50,8 +50,8 @@ module _ (j : Job) (f : LawfulJob j) where
   follows-start groups runs g r = record { group = λ i h. g i h ∙ sym (start-group i h); run = λ i h. r i h ∙ sym (start-run i h) }
 
 -- ---- the model's step
-next-by : (j : Job) (k : ℕ) → familiesBy j (suc k) ≡ next (equation j k) (familiesBy j k)
-unfolding familiesBy
+next-by : (j : Job) (k : ℕ) → stateAfter j (suc k) ≡ next (equation j k) (stateAfter j k)
+unfolding stateAfter
 next-by j k = refl
 
 next-of : (e : Equation) (s : State) →
@@ -66,7 +66,7 @@ same-change e s a b c d = sym (λ t. change (a t) (b t) (kept (form e) (a t) (b 
 -- ---- one equation more, whose row is e
 module _ (j : Job) (f : LawfulJob j) (k : ℕ) (b : k < length (j .equations)) (groups : List ℕ) (runs : List Run) (o : Follows j k groups runs) (e : Equation) (is : e ≡ equation j k) where
   abbrev S : State
-  S = familiesBy j k
+  S = stateAfter j k
 
   abbrev l : ℕ
   l = getD groups (e .left) 0
@@ -92,7 +92,7 @@ module _ (j : Job) (f : LawfulJob j) (k : ℕ) (b : k < length (j .equations)) (
   right-below : e .right < length (j .variables)
   right-below = lawful .right
 
-  pub limits : InLimits (form e)
+  pub limits : CarryLimits (form e)
   limits = lawful .coefficients
 
   family : (i : ℕ) → i < length (j .variables) → FamilyRun (getD runs i empty)
@@ -118,7 +118,7 @@ module _ (j : Job) (f : LawfulJob j) (k : ℕ) (b : k < length (j .equations)) (
   right-label = omega (arith, label-le (e .right) right-below, right-below)
 
   -- the model takes the same step
-  next-is : (x : Option Pair) → x ≡ kept (form e) l r P Q → familiesBy j (suc k) ≡ change l r x S
+  next-is : (x : Option Pair) → x ≡ kept (form e) l r P Q → stateAfter j (suc k) ≡ change l r x S
   next-is x h =
       next-by j k ∙ ap (λ e. next e S) (sym is) ∙ next-of e S
       ∙ same-change e S (o .group (e .left) left-below) (o .group (e .right) right-below) (o .run (e .left) left-below) (o .run (e .right) right-below)
@@ -126,7 +126,7 @@ module _ (j : Job) (f : LawfulJob j) (k : ℕ) (b : k < length (j .equations)) (
 
   pub follows-same : none ≡ kept (form e) l r P Q → Follows j (suc k) groups runs
   follows-same h =
-      let same : familiesBy j (suc k) ≡ S = next-is none h ∙ change-none l r S in
+      let same : stateAfter j (suc k) ≡ S = next-is none h ∙ change-none l r S in
       record { group = λ i b. o .group i b ∙ ap (λ s. groupAt s i) (sym same); run = λ i b. o .run i b ∙ ap (λ s. runAt s i) (sym same) }
 
   -- with the indices that it keeps
@@ -134,15 +134,15 @@ module _ (j : Job) (f : LawfulJob j) (k : ℕ) (b : k < length (j .equations)) (
     abbrev after : ℕ → Run
     after v = runAfter l r (indicesBy i) (getD groups v 0) (getD runs v empty)
 
-    model : familiesBy j (suc k) ≡ change l r (some (indicesBy i)) S
+    model : stateAfter j (suc k) ≡ change l r (some (indicesBy i)) S
     model = next-is (some (indicesBy i)) h
 
-    model-run : (v : ℕ) → v < length (j .variables) → runAt (familiesBy j (suc k)) v ≡ after v
+    model-run : (v : ℕ) → v < length (j .variables) → runAt (stateAfter j (suc k)) v ≡ after v
     model-run v b =
         ap (λ s. runAt s v) model ∙ run-after l r S (indicesBy i) v (omega (arith, known .sized .runs))
         ∙ ap₂ (runAfter l r (indicesBy i)) (sym (o .group v b)) (sym (o .run v b))
 
-    model-group : (v : ℕ) → v < length (j .variables) → groupAt (familiesBy j (suc k)) v ≡ merged l r (getD groups v 0)
+    model-group : (v : ℕ) → v < length (j .variables) → groupAt (stateAfter j (suc k)) v ≡ merged l r (getD groups v 0)
     model-group v b =
         ap (λ s. groupAt s v) model ∙ group-after l r S (indicesBy i) v (omega (arith, known .sized .groups)) ∙ ap (merged l r) (sym (o .group v b))
 
@@ -156,7 +156,7 @@ module _ (j : Job) (f : LawfulJob j) (k : ℕ) (b : k < length (j .equations)) (
 -- ---- after all of them
 pub follows-end : (j : Job) → LawfulJob j → (groups : List ℕ) (runs : List Run) → Follows j (length (j .equations)) groups runs → (i : ℕ) → i < length (j .variables) →
     (getD groups i 0 ≡ lowest j i) × (getD runs i empty ≡ familyRun j i)
-unfolding families
+unfolding stateAfterAll
 follows-end j f groups runs o i h = let (g, r) = exact j f i h in (o .group i h ∙ g, o .run i h ∙ r)
 
 -- ---- the labels alone

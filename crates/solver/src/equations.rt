@@ -2,7 +2,7 @@
 
 ghost use mathlib.Core.Path.{_≡_};
 ghost use Prim.Native.Nat.{_≤_, _<_};
-ghost use Rattle.runs.specs.Workings.{InLimits};
+ghost use Rattle.runs.specs.Workings.{CarryLimits};
 ghost use Rattle.families.specs.FamilyRun.{FamilyRun};
 ghost use Rattle.jobs.specs.Job.{jobOf, variableCount, equationCount};
 ghost use Rattle.jobs.specs.Lawful.{Lawful};
@@ -66,7 +66,7 @@ pub fn families(job: &[u8], bounds: [Bounds; 256], n: usize, m: usize) -> State
 
 // What an equation between variables of the groups l and r, which have the runs p and q, leaves of their families.
 fn leaves(e: runs::Equation, l: u16, r: u16, p: Run, q: Run) -> Kept
-    requires { ⌜ InLimits e ⌝ }
+    requires { ⌜ CarryLimits e ⌝ }
     requires { ⌜ FamilyRun p ⌝ }
     requires { ⌜ FamilyRun q ⌝ }
     ensures { λ i. ⌜ keptBy i ≡ kept e l r p q ⌝ }

@@ -4,7 +4,7 @@ ghost use mathlib.Core.Path.{_≡_};
 ghost use lib.IntN.{_-ℤ_, _*ℤ_};
 ghost use Rattle.ints.specs.Within.{Within};
 ghost use Rattle.ints.specs.Floor.{floorDiv};
-ghost use Rattle.runs.specs.Workings.{InLimits};
+ghost use Rattle.runs.specs.Workings.{CarryLimits};
 ghost use Rattle.runs.specs.Search.{meet, carry};
 ghost use Rattle.families.specs.FamilyRun.{FamilyRun, upward, ratio, across};
 ghost use Rattle.families.specs.Model.{indicesIn, leading, directed, join};
@@ -24,7 +24,7 @@ pub struct Indices {
 // The members of the two families for which the equation holds. `leads` says that the left variable's group has the lower
 // lowest variable, which is that of both together and must rise.
 pub(crate) fn between(e: Equation, p: Run, q: Run, leads: bool) -> Indices
-    requires { ⌜ InLimits e ⌝ }
+    requires { ⌜ CarryLimits e ⌝ }
     requires { ⌜ FamilyRun p ⌝ }
     requires { ⌜ FamilyRun q ⌝ }
     ensures { λ r. ⌜ indicesBy r ≡ join e p q (meet (upward p) (carry (e .a) (e .b) (e .c) (upward q))) leads ⌝ }
@@ -68,7 +68,7 @@ fn ratio(n: i64, d: i64) -> i64
 
 // The partners q of the numbers p of a run, with a·p + b·q = c. The steps go together as the numbers do, with 0 for c.
 fn across(e: Equation, r: Run) -> Run
-    requires { ⌜ InLimits e ⌝ }
+    requires { ⌜ CarryLimits e ⌝ }
     requires { ⌜ Crossable r ⌝ }
     ensures { λ q. ⌜ q ≡ across (e .a) (e .b) (e .c) r ⌝ }
 {
@@ -86,7 +86,7 @@ fn across(e: Equation, r: Run) -> Run
 
 // The partner of p, where there is a whole one.
 fn partner(e: Equation, p: i64) -> i64
-    requires { ⌜ InLimits e ⌝ }
+    requires { ⌜ CarryLimits e ⌝ }
     requires { ⌜ Within 2000000000 p ⌝ }
     ensures { λ q. ⌜ q ≡ floorDiv (e .c -ℤ e .a *ℤ p) (e .b) ⌝ }
 {

@@ -3,7 +3,7 @@
 //! 101 × 24 small and 20,000 pseudo-random pairs.
 
 ghost use Prim.Native.Nat.{_*_, _≤_};
-ghost use Rattle.ints.specs.Division.{InLimits};
+ghost use Rattle.ints.specs.Division.{DivisionLimits};
 use ints::Division;
 
 fn main() {
@@ -160,7 +160,7 @@ fn agrees(n: i64, d: i64) -> u64
 // The inequality that defines the floor: d·q is the last multiple of d that is not past n. Nothing is taken for granted of
 // q: one that is too large for a floor is not multiplied.
 fn is_floor(n: i64, d: i64, q: i64) -> bool
-    requires { ⌜ InLimits n d ⌝ }
+    requires { ⌜ DivisionLimits n d ⌝ }
 {
     if ints::size(n) / ints::size(d) + 1 < ints::size(q) {
         return false;

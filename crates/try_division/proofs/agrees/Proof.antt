@@ -1,6 +1,6 @@
 -- `try_division::agrees` meets its contract: a pair that division did not refuse is within its limits.
 use mathlib.Core.Path.{sym, _∙_, ap}
-use Rattle.ints.specs.Division.{answerOf}
+use Rattle.ints.specs.Division.{divisionAnswerOf}
 use Rattle.ints.proofs.Answers.{IsQuotient, quotient-is}
 use borrow.Author.Needs.{needs}
 use Rattle.ints.proofs.Signed.{held}
@@ -16,7 +16,7 @@ enum-known-q c = search needs
 is-floor-requires : tie.Need-is-floor-requires
 is-floor-requires c κs =
     let s = c .before .before .before .before in
-    let e = ap answerOf (sym (c .before .q .given .1)) ∙ c .before .before .before .divide .ensures in
+    let e = ap divisionAnswerOf (sym (c .before .q .given .1)) ∙ c .before .before .before .divide .ensures in
     let k : IsQuotient (held (s .args .n)) (held (s .args .d)) (c .before .q .given .0 .0) = quotient-is _ _ _ e in
     k .inside
 

@@ -8,7 +8,7 @@ use mir.Syntax.{w64}
 use mir.Val.{SFits}
 use mir.Facts.{toZ-ofZ}
 use Rattle.ints.specs.Within.{Within}
-use Rattle.ints.specs.Division.{InLimits}
+use Rattle.ints.specs.Division.{DivisionLimits}
 use Rattle.ints.proofs.{ℤ, pos, natAbs, _+ℤ_, _*ℤ_, _≤ℤ_, _<ℤ_, [], _∷_, arith, lin, _&_, signed, within-mul}
 use Rattle.ints.proofs.Order.{lt-true, lt-false, le-true, abs-zero}
 use Rattle.ints.proofs.Signed.{held}
@@ -19,17 +19,17 @@ use Rattle.try_division.proofs.is_floor.Lts as lts
 use Rattle.ints.proofs.size.Reads as size-reads
 
 -- a quotient that is not too large has a product that fits, with room for a divisor more
-near : (n d q : ℤ) (a b c : ℕ) → InLimits n d → a ≡ natAbs n → b ≡ natAbs d → c ≡ natAbs q → c ≤ a / b + 1 → Within 8000000000000000000 (d *ℤ q)
+near : (n d q : ℤ) (a b c : ℕ) → DivisionLimits n d → a ≡ natAbs n → b ≡ natAbs d → c ≡ natAbs q → c ≤ a / b + 1 → Within 8000000000000000000 (d *ℤ q)
 near n d q a b c h ea eb ec k =
     let small : natAbs q ≤ natAbs n / natAbs d + 1 = rw (ea, eb, ec) at k in
     let w = within-mul {x = d} {y = q} record { size = le-refl (natAbs d) } record { size = small } in
     record { size = omega (arith, w .size, div-add-mod (natAbs n) (natAbs d), h .dividend .size, h .divisor .size) }
 
 -- that product and one divisor more, on the side of n where it is formed
-more-up : (n d p : ℤ) → InLimits n d → Within 8000000000000000000 p → pos 0 <ℤ d → p ≤ℤ n → SFits w64 (p +ℤ d)
+more-up : (n d p : ℤ) → DivisionLimits n d → Within 8000000000000000000 p → pos 0 <ℤ d → p ≤ℤ n → SFits w64 (p +ℤ d)
 more-up n d p h w a b = lin (n ∷ d ∷ p ∷ []) (h .dividend & h .divisor & w & a & b) (search signed depth 20) (omega arith)
 
-more-down : (n d p : ℤ) → InLimits n d → Within 8000000000000000000 p → d ≤ℤ pos 0 → n ≤ℤ p → SFits w64 (p +ℤ d)
+more-down : (n d p : ℤ) → DivisionLimits n d → Within 8000000000000000000 p → d ≤ℤ pos 0 → n ≤ℤ p → SFits w64 (p +ℤ d)
 more-down n d p h w a b = lin (n ∷ d ∷ p ∷ []) (h .dividend & h .divisor & w & a & b) (search signed depth 20) (omega arith)
 
 -- at the product, with the bits of the locals taken away
@@ -52,7 +52,7 @@ module _ (c : lts.Else1 (size-reads.Asked, size-reads.Learnt) reads.Pre reads.Po
   fq : SFits w64 q
   fq = c .before .before .before .before .fits .q
 
-  inside : InLimits n d
+  inside : DivisionLimits n d
   inside = c .before .before .before .before .pre
 
   wide : Within 8000000000000000000 (d *ℤ q)

@@ -15,7 +15,7 @@ use Rattle.lists.proofs.Sums.{sum-next, pick-yes, pick-no}
 use Rattle.runs.specs.declared.Run.{Run}
 use Rattle.jobs.specs.Solution.{number}
 use Rattle.families.specs.Plan.{gainBy}
-use Rattle.families.proofs.Sizes.{step-within}
+use Rattle.families.proofs.FamilySizes.{step-within}
 use Rattle.solver.specs.Arrays.{groupIn, runIn}
 use Rattle.solver.proofs.Sizes.{held-within}
 use Rattle.planner.proofs.WeightedSums.{fits-product, fits-total, total-is, sums-within}

@@ -11,8 +11,8 @@ use Rattle.ints.proofs.Signed.{held, cast}
 use Rattle.runs.specs.declared.Run.{Run}
 use Rattle.families.specs.FamilyRun.{FamilyRun}
 use Rattle.families.specs.Family.{choice}
-use Rattle.families.proofs.Choices.{choice-below}
-use Rattle.families.proofs.Sizes.{member-within, step-within, many-within}
+use Rattle.families.proofs.BestOfGroup.{choice-below}
+use Rattle.families.proofs.FamilySizes.{member-within, step-within, many-within}
 use Rattle.solver.proofs.Sizes.{fits, held-first, held-step, crossable}
 use Rattle.planner.proofs.choose.number.Statement.{statement}
 use Rattle.planner.proofs.choose.number.Tie as tie

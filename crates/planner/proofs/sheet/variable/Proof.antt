@@ -10,7 +10,7 @@ use Rattle.ints.proofs.Signed.{held}
 use Rattle.runs.specs.declared.Run.{Run}
 use Rattle.jobs.specs.Bytes.{bytesOf, signedBytes}
 use Rattle.jobs.specs.Sheet.{sheetVariable}
-use Rattle.families.proofs.Sizes.{first-within, step-within}
+use Rattle.families.proofs.FamilySizes.{first-within, step-within}
 use Rattle.planner.specs.Area.{over}
 use Rattle.planner.proofs.Overwriting.{over-same, Written, behind-it, length-bytesOf, length-signedBytes}
 use Rattle.solver.proofs.Sizes.{held-first, held-step, crossable}

@@ -7,13 +7,13 @@ use Rattle.ints.specs.Within.{Within}
 use Rattle.ints.proofs.{ℤ, _+ℤ_, _*ℤ_, [], _∷_, arith, lin, _&_, within-mul, signed}
 use Rattle.ints.proofs.Signed.{held}
 use Rattle.runs.specs.declared.Equation.{Equation}
-use Rattle.runs.specs.Workings.{InLimits}
-use Rattle.runs.proofs.Widths.{fits-a, fits-b}
+use Rattle.runs.specs.Workings.{CarryLimits}
+use Rattle.runs.proofs.CarryWidths.{fits-a, fits-b}
 use Rattle.solver.proofs.Sizes.{fits}
 use Rattle.solver.proofs.cycle.combined.Statement.{statement}
 use Rattle.solver.proofs.cycle.combined.Tie as tie
 
-module _ (e : Equation) (x y : ℤ) (p : InLimits e × (Within 2000000000 x × Within 2000000000 y)) where
+module _ (e : Equation) (x y : ℤ) (p : CarryLimits e × (Within 2000000000 x × Within 2000000000 y)) where
   fits-x : SFits w64 x
   fits-x = fits 2000000000 (omega arith) (p .1 .0)
 

@@ -8,7 +8,7 @@ use borrow.Author.Needs.{needs}
 use lib.ListN.{length, getD}
 use Rattle.runs.specs.declared.Run.{Run}
 use Rattle.runs.specs.Run.{empty}
-use Rattle.runs.specs.Workings.{InLimits}
+use Rattle.runs.specs.Workings.{CarryLimits}
 use Rattle.jobs.specs.declared.Equation.{Equation}
 use Rattle.jobs.specs.Job.{jobOf, variableCount, equationCount, form}
 use Rattle.jobs.specs.Lawful.{Lawful}
@@ -133,7 +133,7 @@ form-requires c κs = search needs
 leaves-requires : tie.Need-leaves-requires Inv-loop μ-loop
 leaves-requires c κs =
     let a = at (c .before .before .before) in
-    (subst InLimits (sym (c .form .ensures)) (limits a), (left-family a, right-family a))
+    (subst CarryLimits (sym (c .form .ensures)) (limits a), (left-family a, right-family a))
 
 -- what the equation leaves
 module _ (c : tie.After-leaves Inv-loop μ-loop) where

@@ -2,7 +2,7 @@
 use mathlib.Core.Path.{sym, _∙_, subst}
 use Rattle.families.specs.FamilyRun.{FamilyRun}
 use Rattle.families.specs.Model.{through}
-use Rattle.families.proofs.Parts.{after-left, after-right, after-other}
+use Rattle.families.proofs.Subfamily.{after-left, after-right, after-other}
 use Rattle.solver.specs.Steps.{indicesBy}
 use Rattle.solver.proofs.equations.part.Statement.{statement}
 use Rattle.solver.proofs.equations.part.Tie as tie

@@ -10,12 +10,12 @@ use Rattle.ints.proofs.{pos, _<ℤ_, arith}
 use Rattle.runs.specs.declared.Run.{Run}
 use Rattle.runs.specs.declared.Equation.{Equation as Form}
 use Rattle.runs.specs.Run.{nth, InRun}
-use Rattle.runs.specs.Workings.{InLimits}
+use Rattle.runs.specs.Workings.{CarryLimits}
 use Rattle.families.specs.FamilyRun.{FamilyRun}
-use Rattle.families.specs.Model.{leading, Indices, cycle, common, join, both, kept}
-use Rattle.families.proofs.Parts.{Holds, Picks, pick, pick-is, pick-below}
-use Rattle.families.proofs.Cycles.{Remains, cycle-leaves}
-use Rattle.families.proofs.Crossings.{At, Pairs, join-pairs, join-rises}
+use Rattle.families.specs.Model.{leading, Indices, cycle, commonNumbers, join, bothSides, kept}
+use Rattle.families.proofs.Subfamily.{Holds, Picks, pick, pick-is, pick-below}
+use Rattle.families.proofs.CycleStep.{Remains, cycle-leaves}
+use Rattle.families.proofs.JoinStep.{At, Pairs, join-pairs, join-rises}
 
 -- i has just the pairs of indices into P and Q at which the equation holds; where P and Q are of one group, l and r are the
 -- same, and only an index and itself is a pair
@@ -34,7 +34,7 @@ Kept e l r P Q none = (l ≡ r) × ((k : ℕ) → Holds e (nth P k) (nth Q k))
 Kept e l r P Q (some i) = Leaves e l r P Q i
 
 module _ (e : Form) (l r : ℕ) (P Q : Run) where
-  one-group : l ≡ r → P .many ≡ Q .many → (o : Option Run) → Remains e P Q o → Kept e l r P Q (both o)
+  one-group : l ≡ r → P .many ≡ Q .many → (o : Option Run) → Remains e P Q o → Kept e l r P Q (bothSides o)
   one-group q m none h = (q, h)
   one-group q m (some s) h = record {
     left = h .picks;
@@ -60,10 +60,10 @@ module _ (e : Form) (l r : ℕ) (P Q : Run) where
     rises = up;
   }
 
-  pub kept-is : InLimits e → FamilyRun P → FamilyRun Q → (l ≡ r → P .many ≡ Q .many) → Kept e l r P Q (kept e l r P Q)
+  pub kept-is : CarryLimits e → FamilyRun P → FamilyRun Q → (l ≡ r → P .many ≡ Q .many) → Kept e l r P Q (kept e l r P Q)
   unfolding kept
   kept-is lim f g m = go (eqb l r) refl
     where
-      go : (t : Bool) → eqb l r ≡ t → Kept e l r P Q (cond t (both (cycle e P Q)) (some (join e P Q (common e P Q) (ltb l r))))
+      go : (t : Bool) → eqb l r ≡ t → Kept e l r P Q (cond t (bothSides (cycle e P Q)) (some (join e P Q (commonNumbers e P Q) (ltb l r))))
       go true t = one-group (eqb-true l r t) (m (eqb-true l r t)) (cycle e P Q) (cycle-leaves e P Q)
       go false t = two-groups (eqb-false l r t) (join-pairs lim f g (ltb l r)) (join-rises lim f g (ltb l r))

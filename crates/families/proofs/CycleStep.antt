@@ -16,8 +16,8 @@ use Rattle.runs.specs.declared.Run.{Run}
 use Rattle.runs.specs.declared.Equation.{Equation as Form}
 use Rattle.runs.specs.Run.{nth, InRun, empty}
 use Rattle.runs.proofs.Members.{not-in-empty}
-use Rattle.families.specs.Model.{alone, coefficient, value, inRange, candidate, cycle}
-use Rattle.families.proofs.Parts.{Holds, at-rest, Picks, picks-empty}
+use Rattle.families.specs.Model.{alone, coefficient, residual, inRange, candidate, cycle}
+use Rattle.families.proofs.Subfamily.{Holds, at-rest, Picks, picks-empty}
 
 -- s has just the indices below many of which P holds, and at most one
 pub record Single (many : ℕ) (P : ℕ → Type 0) (s : Run) : Type 0 where
@@ -67,7 +67,7 @@ quotient v d many nz = go (isEqual (floorMod v d) (pos 0)) refl
 
 -- ---- the equation at index k of both runs, in terms of k
 module _ (e : Form) (P Q : Run) where
-  at-index : (k : ℕ) → Holds e (nth P k) (nth Q k) ↔ (coefficient e P Q *ℤ pos k ≡ value e P Q)
+  at-index : (k : ℕ) → Holds e (nth P k) (nth Q k) ↔ (coefficient e P Q *ℤ pos k ≡ residual e P Q)
   at-index k = lin₀ (e .a ∷ e .b ∷ e .c ∷ P .first ∷ P .step ∷ Q .first ∷ Q .step ∷ pos k ∷ []) (search facts depth 20) (omega arith)
 
   -- redundant where it holds at every index; else it leaves one index or none
@@ -82,13 +82,13 @@ module _ (e : Form) (P Q : Run) where
   pub cycle-leaves : Remains (cycle e P Q)
   cycle-leaves = go (isEqual (coefficient e P Q) (pos 0)) refl
     where
-      rest : coefficient e P Q ≡ pos 0 → (t : Bool) → isEqual (value e P Q) (pos 0) ≡ t → Remains (cond t none (some empty))
-      rest z true t = λ k. at-index k .1 (level z k ∙ sym (equal-true (value e P Q) (pos 0) .0 t))
-      rest z false t = no-index (λ k h q. false≢true (sym t ∙ equal-true (value e P Q) (pos 0) .1 (sym (at-index k .0 q) ∙ level z k)))
+      rest : coefficient e P Q ≡ pos 0 → (t : Bool) → isEqual (residual e P Q) (pos 0) ≡ t → Remains (cond t none (some empty))
+      rest z true t = λ k. at-index k .1 (level z k ∙ sym (equal-true (residual e P Q) (pos 0) .0 t))
+      rest z false t = no-index (λ k h q. false≢true (sym t ∙ equal-true (residual e P Q) (pos 0) .1 (sym (at-index k .0 q) ∙ level z k)))
 
       go : (t : Bool) → isEqual (coefficient e P Q) (pos 0) ≡ t →
-          Remains (cond t (cond (isEqual (value e P Q) (pos 0)) none (some empty)) (some (candidate (value e P Q) (coefficient e P Q) (P .many))))
-      go true t = rest (equal-true (coefficient e P Q) (pos 0) .0 t) (isEqual (value e P Q) (pos 0)) refl
+          Remains (cond t (cond (isEqual (residual e P Q) (pos 0)) none (some empty)) (some (candidate (residual e P Q) (coefficient e P Q) (P .many))))
+      go true t = rest (equal-true (coefficient e P Q) (pos 0) .0 t) (isEqual (residual e P Q) (pos 0)) refl
       go false t =
           single-by at-index
-          (quotient (value e P Q) (coefficient e P Q) (P .many) (λ z. false≢true (sym t ∙ equal-true (coefficient e P Q) (pos 0) .1 z)))
+          (quotient (residual e P Q) (coefficient e P Q) (P .many) (λ z. false≢true (sym t ∙ equal-true (coefficient e P Q) (pos 0) .1 z)))

@@ -1,9 +1,9 @@
--- `Equation::value` meets its contract.
+-- `Equation::partner_value` meets its contract.
 use mathlib.Core.Path.{refl}
 use mir.Facts.{toZ-ofZ}
-use Rattle.runs.proofs.Widths.{fits-b, fits-c, fits-q, fits-product, fits-value}
-use Rattle.runs.proofs.Equation.value.Statement.{statement}
-use Rattle.runs.proofs.Equation.value.Tie as tie
+use Rattle.runs.proofs.CarryWidths.{fits-b, fits-c, fits-q, fits-product, fits-value}
+use Rattle.runs.proofs.Equation.partner_value.Statement.{statement}
+use Rattle.runs.proofs.Equation.partner_value.Tie as tie
 
 mul-result : tie.Need-mul-result
 mul-result c =
@@ -20,5 +20,5 @@ returns c =
     let (lim, w) = c .before .before .before .before .pre in
     rw (toZ-ofZ (fits-c lim), toZ-ofZ (fits-b lim), toZ-ofZ (fits-q lim w), toZ-ofZ (fits-product lim w), toZ-ofZ (fits-value lim w)) refl
 
-pub value-spec : {M : Type 1} → statement M
-value-spec = tie.close (tie.spec mul-result sub-result returns)
+pub partner-value-spec : {M : Type 1} → statement M
+partner-value-spec = tie.close (tie.spec mul-result sub-result returns)

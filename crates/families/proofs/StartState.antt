@@ -16,18 +16,18 @@ use Rattle.runs.specs.Search.{meet}
 use Rattle.runs.specs.Method.{progression}
 use Rattle.runs.proofs.Members.{empty-form, not-in-empty}
 use Rattle.runs.proofs.Progressions.{Along}
-use Rattle.runs.proofs.Clips.{in-progression, progression-form, full-form}
+use Rattle.runs.proofs.ClassInInterval.{in-progression, progression-form, full-form}
 use Rattle.runs.specs.Model.{meetModel}
 use Rattle.runs.proofs.Model.{meet-model}
-use Rattle.runs.proofs.Laws.{meet-form, in-meet, in-full}
+use Rattle.runs.proofs.MeetAndCarry.{meet-form, in-meet, in-full}
 use Rattle.families.proofs.FamilyRuns.{one-form-family}
 use Rattle.jobs.specs.Job.{Job, variable}
 use Rattle.jobs.specs.Solution.{number}
 use Rattle.jobs.specs.Component.{lowestBy}
 use Rattle.jobs.specs.Table.{InRange}
-use Rattle.families.specs.Model.{groupAt, runAt, interval, start}
+use Rattle.families.specs.Model.{groupAt, runAt, interval, startState}
 use Rattle.families.specs.Invariant.{Keeps, OnFamily, Invariant}
-use Rattle.families.proofs.Advance.{on-family}
+use Rattle.families.proofs.InvariantStep.{on-family}
 
 -- ---- the numbers from low to high
 module _ (low high : ℤ) where
@@ -86,21 +86,21 @@ module _ (j : Job) where
   abbrev pub startRun : ℕ → Run
   startRun i = meetModel full (interval (variable j i .low) (variable j i .high))
 
-  start-groups : start j .groups ≡ upTo (length (j .variables))
-  unfolding start
+  start-groups : startState j .groups ≡ upTo (length (j .variables))
+  unfolding startState
   start-groups = refl
 
-  start-runs : start j .runs ≡ table startRun (length (j .variables))
-  unfolding start
+  start-runs : startState j .runs ≡ table startRun (length (j .variables))
+  unfolding startState
   start-runs = refl
 
-  pub start-lengths : (length (start j .groups) ≡ length (j .variables)) × (length (start j .runs) ≡ length (j .variables))
+  pub start-lengths : (length (startState j .groups) ≡ length (j .variables)) × (length (startState j .runs) ≡ length (j .variables))
   start-lengths = (ap length start-groups ∙ length-upTo (length (j .variables)), ap length start-runs ∙ length-table startRun (length (j .variables)))
 
-  pub run-at : (i : ℕ) → i < length (j .variables) → runAt (start j) i ≡ startRun i
+  pub run-at : (i : ℕ) → i < length (j .variables) → runAt (startState j) i ≡ startRun i
   run-at i h = ap (λ rs. getD rs i empty) start-runs ∙ table-at startRun (length (j .variables)) i empty h
 
-  pub group-at : (i : ℕ) → i < length (j .variables) → groupAt (start j) i ≡ i
+  pub group-at : (i : ℕ) → i < length (j .variables) → groupAt (startState j) i ≡ i
   group-at i h = ap (λ gs. getD gs i 0) start-groups ∙ table-at (λ i. i) (length (j .variables)) i 0 h
 
   own : (i : ℕ) → lowestBy j 0 i ≡ i
@@ -108,36 +108,36 @@ module _ (j : Job) where
   own i = refl
 
   module _ (each : (i : ℕ) → i < length (j .variables) → InRange (variable j i)) where
-    form : (i : ℕ) → i < length (j .variables) → OneForm (runAt (start j) i)
+    form : (i : ℕ) → i < length (j .variables) → OneForm (runAt (startState j) i)
     form i h = subst OneForm (sym (run-at i h)) (began-form (variable j i .low) (variable j i .high) (each i h .low) (each i h .high))
 
-    in-run : (i : ℕ) → i < length (j .variables) → (x : ℤ) → InRun (runAt (start j) i) x ↔ ((variable j i .low ≤ℤ x) × (x ≤ℤ variable j i .high))
+    in-run : (i : ℕ) → i < length (j .variables) → (x : ℤ) → InRun (runAt (startState j) i) x ↔ ((variable j i .low ≤ℤ x) × (x ≤ℤ variable j i .high))
     in-run i h x = rw (run-at i h) (in-began (variable j i .low) (variable j i .high) (each i h .low) (each i h .high) x)
 
-    pub begins : Invariant j 0 (start j)
+    pub begins : Invariant j 0 (startState j)
     begins = record {
       groups = λ i h. group-at i h ∙ sym (own i);
       family = λ g b z x. (to g b z x, from g b x);
-      many = λ i h. ap (λ g. runAt (start j) g .many) (sym (own i));
+      many = λ i h. ap (λ g. runAt (startState j) g .many) (sym (own i));
       form = λ i h. one-form-family (form i h);
-      rises = λ g b z t. lin (runAt (start j) g .step ∷ []) (form g b .rises t) (search facts depth 20) (omega arith);
+      rises = λ g b z t. lin (runAt (startState j) g .step ∷ []) (form g b .rises t) (search facts depth 20) (omega arith);
     }
       where
-        to : (g : ℕ) → g < length (j .variables) → lowestBy j 0 g ≡ g → (x : List ℤ) → Keeps j 0 g x → OnFamily j 0 (runAt (start j)) g x
+        to : (g : ℕ) → g < length (j .variables) → lowestBy j 0 g ≡ g → (x : List ℤ) → Keeps j 0 g x → OnFamily j 0 (runAt (startState j)) g x
         to g b z x k = on-family b z (one-form-family (form g b)) (record { below = i .below; at = λ i′ h l. at i′ (sym (own i′) ∙ l) })
           where
-            i : InRun (runAt (start j) g) (number x g)
+            i : InRun (runAt (startState j) g) (number x g)
             i = in-run g b (number x g) .1 (k .low g b z, k .high g b z)
 
-            at : (i′ : ℕ) → i′ ≡ g → number x i′ ≡ nth (runAt (start j) i′) (i .place)
-            at i′ e = subst (λ i′. number x i′ ≡ nth (runAt (start j) i′) (i .place)) (sym e) (i .is)
+            at : (i′ : ℕ) → i′ ≡ g → number x i′ ≡ nth (runAt (startState j) i′) (i .place)
+            at i′ e = subst (λ i′. number x i′ ≡ nth (runAt (startState j) i′) (i .place)) (sym e) (i .is)
 
-        from : (g : ℕ) → g < length (j .variables) → (x : List ℤ) → OnFamily j 0 (runAt (start j)) g x → Keeps j 0 g x
+        from : (g : ℕ) → g < length (j .variables) → (x : List ℤ) → OnFamily j 0 (runAt (startState j)) g x → Keeps j 0 g x
         from g b x o = record { low = λ i h l. bounds i h l .0; high = λ i h l. bounds i h l .1; holds = λ k h. absurd (omega arith) }
           where
             bounds : (i : ℕ) → i < length (j .variables) → lowestBy j 0 i ≡ g → (variable j i .low ≤ℤ number x i) × (number x i ≤ℤ variable j i .high)
             bounds i h l = in-run i h (number x i) .0 (record {
               place = o .k;
-              below = subst (λ g. o .k < runAt (start j) g .many) (sym l ∙ own i) (o .is .below);
+              below = subst (λ g. o .k < runAt (startState j) g .many) (sym l ∙ own i) (o .is .below);
               is = o .is .at i h l;
             })

@@ -28,11 +28,11 @@ use Rattle.jobs.specs.Family.{componentJob}
 use Rattle.jobs.proofs.Components.{lowest-le}
 use Rattle.jobs.proofs.Solutions.{in-solutions, rising-solutions}
 use Rattle.jobs.proofs.Assembly.{outside-zero, holds-iff, Between, between, component-length, variable-inside, variable-outside, in-equations}
-use Rattle.families.proofs.Lines.{line-up, pos-below}
+use Rattle.families.proofs.LinearFunctions.{line-up, pos-below}
 use Rattle.families.specs.Model.{State, runAt}
 use Rattle.families.specs.Invariant.{Keeps, OnFamily, Invariant}
-use Rattle.families.proofs.Parts.{at-rest}
-use Rattle.families.proofs.Advance.{on-family}
+use Rattle.families.proofs.Subfamily.{at-rest}
+use Rattle.families.proofs.InvariantStep.{on-family}
 
 -- the lowest variable, along all equations
 pub lowest-is : (j : Job) (i : ℕ) → lowest j i ≡ lowestBy j (length (j .equations)) i

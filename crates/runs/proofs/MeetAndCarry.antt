@@ -7,10 +7,10 @@ use Rattle.ints.specs.Within.{Within}
 use Rattle.ints.proofs.{ℤ, _+ℤ_, _*ℤ_, _-ℤ_, arith, lin, lin₀, facts}
 use Rattle.runs.specs.Run.{Run, InRun, OneForm, full, bound}
 use Rattle.runs.specs.Search.{meet, Partner, carry}
-use Rattle.runs.specs.Workings.{Equation, InLimits}
-use Rattle.runs.proofs.Spans.{in-span}
-use Rattle.runs.proofs.Clips.{full-form}
-use Rattle.runs.proofs.Carries.{in-whole}
+use Rattle.runs.specs.Workings.{Equation, CarryLimits}
+use Rattle.runs.proofs.ClassOfRun.{in-span}
+use Rattle.runs.proofs.ClassInInterval.{full-form}
+use Rattle.runs.proofs.Intervals.{in-whole}
 use Rattle.runs.proofs.Model.{is-met, is-carried}
 
 -- ---- meeting: x is in the meet iff it is in both
@@ -21,7 +21,7 @@ pub in-meet : {a b : Run} → OneForm a → OneForm b → (x : ℤ) → InRun (m
 in-meet o o′ = is-met o o′ .all
 
 -- ---- carrying: p is carried iff it is within ±1,000,000,000 and has a partner
-module _ {e : Equation} (lim : InLimits e) where
+module _ {e : Equation} (lim : CarryLimits e) where
   pub carry-form : {q : Run} → OneForm q → OneForm (carry (e .a) (e .b) (e .c) q)
   carry-form o = is-carried lim o .form
 
@@ -47,14 +47,14 @@ module _ {e : Equation} (lim : InLimits e) where
 abbrev pub swapped : Equation → Equation
 swapped e = record { a = e .b; b = e .a; c = e .c }
 
-pub swapped-limits : {e : Equation} → InLimits e → InLimits (swapped e)
+pub swapped-limits : {e : Equation} → CarryLimits e → CarryLimits (swapped e)
 swapped-limits lim = record { left = lim .right; left-not-zero = lim .right-not-zero; right = lim .left; right-not-zero = lim .left-not-zero; constant = lim .constant }
 
 pub turn-partner : {a b c : ℤ} {P Q : Run} {p : ℤ} → InRun P p → (k : Partner a b c Q p) → Partner b a c P (k .q)
 turn-partner {a} {b} {c} {P} {Q} {p} h k = record { q = p; member = h; holds = lin (a ∷ b ∷ c ∷ p ∷ k .q ∷ []) (k .holds) (search facts depth 20) (omega arith) }
 
 -- back and forth: each p that is joined has its partner among the joined q
-pub back-and-forth : {e : Equation} → InLimits e → {P Q : Run} → OneForm P → OneForm Q → (p : ℤ) →
+pub back-and-forth : {e : Equation} → CarryLimits e → {P Q : Run} → OneForm P → OneForm Q → (p : ℤ) →
     InRun (meet P (carry (e .a) (e .b) (e .c) Q)) p →
     (q : ℤ) × InRun (meet Q (carry (e .b) (e .a) (e .c) P)) q × (e .a *ℤ p +ℤ e .b *ℤ q ≡ e .c)
 back-and-forth {e} lim {P} {Q} o o′ p h =

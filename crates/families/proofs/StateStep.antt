@@ -19,11 +19,11 @@ use Rattle.jobs.specs.Solution.{number, value}
 use Rattle.jobs.specs.Component.{lowestBy}
 use Rattle.families.specs.Model.{leading, State, runAt, Indices, through, runAfter}
 use Rattle.families.specs.Invariant.{IsMember, OnFamily, Invariant}
-use Rattle.families.proofs.Parts.{after-left, after-right, after-other, Holds, Picks, pick, pick-is, pick-below, same-nat, two-to-pick, through-many, through-step, through-at, through-form}
-use Rattle.families.proofs.Crossings.{At}
-use Rattle.families.proofs.Kept.{Leaves}
-use Rattle.families.proofs.Labels.{leftGroup, rightGroup, newGroup, InEither, Relabelled, from-left, from-right, stays, relabelled, new-is, to-new, from-new}
-use Rattle.families.proofs.Advance.{on-family, OnBoth, Step, Named, left-below, right-below, left-self, right-self, new-below, new-self}
+use Rattle.families.proofs.Subfamily.{after-left, after-right, after-other, Holds, Picks, pick, pick-is, pick-below, same-nat, two-to-pick, through-many, through-step, through-at, through-form}
+use Rattle.families.proofs.JoinStep.{At}
+use Rattle.families.proofs.OneEquation.{Leaves}
+use Rattle.families.proofs.GroupLabels.{leftGroup, rightGroup, newGroup, InEither, Relabelled, from-left, from-right, stays, relabelled, new-is, to-new, from-new}
+use Rattle.families.proofs.InvariantStep.{on-family, OnBoth, Step, Named, left-below, right-below, left-self, right-self, new-below, new-self}
 
 -- an equation's value by the numbers of its two variables
 valued : (e : Equation) (x : List ℤ) {p q : ℤ} → number x (e .left) ≡ p → number x (e .right) ≡ q → value e x ≡ e .a *ℤ p +ℤ e .b *ℤ q

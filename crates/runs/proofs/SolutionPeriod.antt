@@ -1,7 +1,8 @@
 -- What every solution of a congruence says of the period: it divides the modulus, and the modulus divides u times it.
 use mathlib.Core.List.{[], _∷_}
 use Rattle.ints.specs.Divides.{_∣ℤ_, Congruent}
-use Rattle.ints.proofs.{pos, _+ℤ_, _-ℤ_, _*ℤ_, _≤ℤ_, _<ℤ_, arith, lin, lin₀, _&_, facts}
+use Rattle.ints.proofs.{ℤ, pos, _+ℤ_, _-ℤ_, _*ℤ_, _≤ℤ_, _<ℤ_, arith, lin, lin₀, _&_, facts, prod}
+use Rattle.ints.proofs.Products.{cancel-lt}
 use Rattle.ints.proofs.Divides.{divisor-range}
 use Rattle.runs.specs.Method.{Class, Congruence, AllSolutions}
 
@@ -36,3 +37,11 @@ module _ {s : Congruence} {c : Class} (e : AllSolutions s c) where
 
   pub period-within : pos 0 <ℤ s .d → c .step ≤ℤ s .d
   period-within h = divisor-range (lin (c .step ∷ []) period-above (search facts depth 20) (omega arith)) period-divides h .1
+
+  -- no solution from 0 on is before the first one
+  pub not-before : (k : ℤ) → pos 0 ≤ℤ k → Congruent (c .step) k (c .first) → c .first ≤ℤ k
+  not-before k h m =
+      let step : pos 0 ≤ℤ c .step = lin (c .step ∷ []) period-above (search facts depth 20) (omega arith) in
+      let up : (pos 0 -ℤ pos 1) <ℤ m .factor = cancel-lt (c .step) (pos 0 -ℤ pos 1) (m .factor) period-above (lin (k ∷ c .first ∷ c .step ∷ m .factor ∷ []) (m .exact & h & e .high) (search facts depth 20) (omega arith)) in
+      let whole : pos 0 ≤ℤ m .factor = lin (m .factor ∷ []) up (search facts depth 20) (omega arith) in
+      lin (k ∷ c .first ∷ c .step ∷ m .factor ∷ []) (m .exact & prod step whole) (search facts depth 20) (omega arith)

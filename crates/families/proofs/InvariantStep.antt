@@ -17,8 +17,8 @@ use Rattle.jobs.specs.Component.{lowestBy}
 use Rattle.jobs.proofs.Components.{lowestBy-le, lowestBy-self}
 use Rattle.families.specs.Model.{State, groupAt, runAt}
 use Rattle.families.specs.Invariant.{Keeps, IsMember, OnFamily, Invariant}
-use Rattle.families.proofs.Parts.{index-only}
-use Rattle.families.proofs.Labels.{leftGroup, rightGroup, newGroup, InEither, new-is, to-new, from-new, from-other, to-other, apart}
+use Rattle.families.proofs.Subfamily.{index-only}
+use Rattle.families.proofs.GroupLabels.{leftGroup, rightGroup, newGroup, InEither, new-is, to-new, from-new, from-other, to-other, apart}
 
 -- a member is on the family: at the group's lowest variable there is one index only
 pub on-family : {j : Job} {m : ℕ} {run : ℕ → Run} {g k : ℕ} {x : List ℤ} → g < length (j .variables) → lowestBy j m g ≡ g → FamilyRun (run g) →

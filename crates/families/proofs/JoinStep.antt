@@ -17,17 +17,17 @@ use Rattle.runs.specs.declared.Run.{Run}
 use Rattle.runs.specs.declared.Equation.{Equation as Form}
 use Rattle.runs.specs.Run.{nth, InRun, OneForm, empty}
 use Rattle.runs.specs.Search.{meet, carry, Partner}
-use Rattle.runs.specs.Workings.{InLimits}
+use Rattle.runs.specs.Workings.{CarryLimits}
 use Rattle.runs.proofs.Members.{no-place}
 use Rattle.runs.specs.Model.{meetModel}
 use Rattle.runs.proofs.Model.{meet-model, carry-model}
-use Rattle.runs.proofs.Laws.{carry-form}
+use Rattle.runs.proofs.MeetAndCarry.{carry-form}
 use Rattle.families.specs.FamilyRun.{Moves, FamilyRun, upward, ratio, indexOf, strideIn, across}
 use Rattle.families.proofs.FamilyRuns.{one-form-moves, turned-moves, in-turned, upward-form}
 use Rattle.families.proofs.ExactQuotients.{Indexed, turned-indexed, Across, at-across, across-turned, across-moves}
 use Rattle.families.proofs.JoinedRuns.{join-form, in-join, join-partners, left, right}
-use Rattle.families.specs.Model.{leading, downwards, Indices, common, places, directed, join}
-use Rattle.families.proofs.Parts.{Holds, Picks, pick, pick-is, pick-below, picks-empty, index-only}
+use Rattle.families.specs.Model.{leading, downwards, Indices, commonNumbers, places, directed, join}
+use Rattle.families.proofs.Subfamily.{Holds, Picks, pick, pick-is, pick-below, picks-empty, index-only}
 
 -- k and l stand at one place of the two runs of indices
 pub record At (i : Indices) (k l : ℕ) : Type 0 where
@@ -111,7 +111,7 @@ directed-is {e} {P} {Q} {i} lower up down = go (ltZ (leading lower i .step) (pos
       rises = λ h. lin (leading lower i .step ∷ []) (t & leading-moves up lower h) (search facts depth 20) (omega arith);
     }
 
-module _ {e : Form} (lim : InLimits e) {P Q : Run} (f : FamilyRun P) (g : FamilyRun Q) where
+module _ {e : Form} (lim : CarryLimits e) {P Q : Run} (f : FamilyRun P) (g : FamilyRun Q) where
   module _ {R S : Run} (m : Moves R) (joined : Completed e P Q R) (o : Across (e .a) (e .b) (e .c) R S) {k₀ kₜ l₀ lₜ : ℤ}
       (i : Indexed P R k₀ kₜ) (j : Indexed Q S l₀ lₜ) (still : R .many ≤ 1 → kₜ ≡ pos 0) (still′ : S .many ≤ 1 → lₜ ≡ pos 0) where
     abbrev ps : Run
@@ -162,11 +162,11 @@ module _ {e : Form} (lim : InLimits e) {P Q : Run} (f : FamilyRun P) (g : Family
     }
 
   -- ---- R is worked out by the model; it is the definitions' meet
-  pub common-is : common e P Q ≡ meet (upward P) (carry (e .a) (e .b) (e .c) (upward Q))
-  unfolding common
+  pub common-is : commonNumbers e P Q ≡ meet (upward P) (carry (e .a) (e .b) (e .c) (upward Q))
+  unfolding commonNumbers
   common-is = ap (meetModel (upward P)) (carry-model lim (upward-form g)) ∙ meet-model (upward-form f) (carry-form lim (upward-form g))
 
-  known : Known e P Q (common e P Q)
+  known : Known e P Q (commonNumbers e P Q)
   known = subst (Known e P Q) (sym common-is) (record {
     form = join-form lim f g;
     completed = in-join lim f g;
@@ -218,9 +218,9 @@ module _ {e : Form} (lim : InLimits e) {P Q : Run} (f : FamilyRun P) (g : Family
           directed-is lower (upwards-paired o some) (downwards-paired o some)
 
   -- the join has just the pairs of indices at which the equation holds
-  pub join-pairs : (lower : Bool) → Pairs e P Q (join e P Q (common e P Q) lower)
+  pub join-pairs : (lower : Bool) → Pairs e P Q (join e P Q (commonNumbers e P Q) lower)
   join-pairs lower = joined known lower .pairs
 
   -- and the indices of the group that keeps its lowest variable rise
-  pub join-rises : (lower : Bool) → 2 ≤ join e P Q (common e P Q) lower .left .many → pos 0 <ℤ leading lower (join e P Q (common e P Q) lower) .step
+  pub join-rises : (lower : Bool) → 2 ≤ join e P Q (commonNumbers e P Q) lower .left .many → pos 0 <ℤ leading lower (join e P Q (commonNumbers e P Q) lower) .step
   join-rises lower = joined known lower .rises

@@ -12,7 +12,7 @@ use Rattle.ints.proofs.Order.{abs-nonneg}
 use Rattle.ints.proofs.Products.{cancel-lt, mul-le}
 use Rattle.ints.proofs.Floor.{div-mod, mod-range, floor-range, floor-iff}
 use Rattle.runs.specs.Run.{Run, InRun, OneForm, empty, full, bound}
-use Rattle.runs.specs.Method.{Class, Interval, InInterval, Clippable, lowest, steps, progression, clip}
+use Rattle.runs.specs.Method.{Class, Interval, InInterval, Clippable, lowestIn, steps, progression, clip}
 use Rattle.runs.proofs.Members.{not-in-empty, empty-form}
 use Rattle.runs.proofs.Progressions.{Along, along-iff, alone, in-along}
 
@@ -116,7 +116,7 @@ pub record IsClip (c : Class) (i : Interval) (r : Run) : Type 0 where
 
 module _ (c : Class) (i : Interval) (fair : Clippable c i) where
   abbrev L : ℤ
-  L = lowest c i
+  L = lowestIn c i
 
   abbrev N : ℤ
   N = steps c i

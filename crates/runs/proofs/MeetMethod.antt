@@ -18,10 +18,10 @@ use Rattle.runs.specs.Run.{Run, numbers, InRun, OneForm, empty, bound}
 use Rattle.runs.specs.Search.{isIn, meet}
 use Rattle.runs.specs.Method.{Class, InInterval, Clippable, Places, Congruence, InReach, AllSolutions, Solves, stride, span, clip, greater, smaller, common, placesIn, numbersAt, meetBy}
 use Rattle.runs.proofs.Members.{in-numbers, rising-numbers, is-runOf, empty-form, not-in-empty, no-place}
-use Rattle.runs.proofs.Spans.{in-span, stride-above, first-within, last-within, stride-within}
+use Rattle.runs.proofs.ClassOfRun.{in-span, stride-above, first-within, last-within, stride-within}
 use Rattle.runs.proofs.Intervals.{in-common, either, greater-over}
-use Rattle.runs.proofs.Clips.{IsClip, is-clip}
-use Rattle.runs.proofs.Periods.{period-above, period-within}
+use Rattle.runs.proofs.ClassInInterval.{IsClip, is-clip}
+use Rattle.runs.proofs.SolutionPeriod.{period-above, period-within}
 
 -- ---- the definition by its members
 is-in : (r : Run) (x : ℤ) → (isIn r x ≡ true) ↔ InRun r x

@@ -8,7 +8,7 @@ use Rattle.ints.proofs.{ℤ, pos, negℤ, _+ℤ_, _-ℤ_, _*ℤ_, _≤ℤ_, _<�
 use Rattle.ints.proofs.Order.{below-or-above}
 use Rattle.runs.specs.declared.Run.{Run}
 use Rattle.runs.specs.Run.{bound, nth}
-use Rattle.runs.proofs.Clips.{one-less}
+use Rattle.runs.proofs.ClassInInterval.{one-less}
 use Rattle.families.specs.FamilyRun.{FamilyRun}
 
 -- how many there are: none, one or more

@@ -20,7 +20,7 @@ use Rattle.jobs.specs.Solution.{number, IsSolution, solutions, objective, Earli
 use Rattle.jobs.specs.Family.{fits, base, step, chosen, slope}
 use Rattle.jobs.proofs.Solutions.{in-solutions, rising-solutions, best-only}
 use Rattle.jobs.proofs.Chosen.{chosen-at}
-use Rattle.families.proofs.Lines.{line-up, line-down, line-level, pos-below}
+use Rattle.families.proofs.LinearFunctions.{line-up, line-down, line-level, pos-below}
 use Rattle.families.specs.Family.{member, choice}
 
 -- ---- the objective along a family

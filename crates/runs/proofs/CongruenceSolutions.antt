@@ -4,7 +4,7 @@ use mathlib.Core.Logic.{_≢_}
 use Rattle.ints.specs.Within.{Within}
 use Rattle.ints.specs.Floor.{floorDiv, floorMod}
 use Rattle.ints.specs.Divides.{_∣ℤ_, Congruent}
-use Rattle.ints.specs.Division.{InLimits, limit}
+use Rattle.ints.specs.Division.{DivisionLimits, limit}
 use Rattle.ints.proofs.{ℤ, pos, negℤ, _*ℤ_, _≤ℤ_, _<ℤ_, [], _∷_, arith, lin, lin₀, _&_, facts}
 use Rattle.ints.proofs.Order.{le-trans, lt-ne}
 use Rattle.ints.proofs.Products.{cancel-lt}
@@ -91,7 +91,7 @@ module _ {u d g x : ℤ} (f : IsFactor u d g x) (above : pos 0 <ℤ d) where
 
 -- ---- a program's divisions by g stay within their limits
 -- a divisor of the size that this crate divides by
-pub limits : {n d : ℤ} → Within limit n → pos 0 <ℤ d → d ≤ℤ pos 2000000000 → InLimits n d
+pub limits : {n d : ℤ} → Within limit n → pos 0 <ℤ d → d ≤ℤ pos 2000000000 → DivisionLimits n d
 limits {n} {d} h above most = record {
   dividend = h;
   divisor = lin (d ∷ []) (above & most) (search facts depth 20) (omega arith);
@@ -99,15 +99,15 @@ limits {n} {d} h above most = record {
 }
 
 module _ {s : Congruence} {g x : ℤ} (reach : InReach s) (f : IsFactor (s .u) (s .d) g x) where
-  by-g : {n : ℤ} → Within limit n → InLimits n g
+  by-g : {n : ℤ} → Within limit n → DivisionLimits n g
   by-g h =
       let (above, most) = gcd-range f (reach .above) in
       limits h above (le-trans g (s .d) (pos 2000000000) most (reach .modulus))
 
-  pub limits-value : InLimits (s .v) g
+  pub limits-value : DivisionLimits (s .v) g
   limits-value = by-g (lin (s .v ∷ []) (reach .value) (search facts depth 20) (omega arith))
 
-  pub limits-modulus : InLimits (s .d) g
+  pub limits-modulus : DivisionLimits (s .d) g
   limits-modulus = by-g (lin (s .d ∷ []) (reach .above & reach .modulus) (search facts depth 20) (omega arith))
 
 -- two congruences with the same numbers are one
