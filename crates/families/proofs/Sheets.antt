@@ -15,7 +15,7 @@ use Rattle.ints.proofs.{ℤ, pos, _+ℤ_, _*ℤ_, _<ℤ_, arith}
 use Rattle.lists.specs.Members.{_∈_}
 use Rattle.lists.proofs.Table.{table-at}
 use Rattle.runs.specs.Run.{bound}
-use Rattle.jobs.specs.Bytes.{u16}
+use Rattle.bytes.specs.LittleEndian.{u16}
 use Rattle.jobs.specs.Job.{Job, jobOf}
 use Rattle.jobs.specs.Solution.{number, IsSolution, objective, best}
 use Rattle.jobs.specs.Layout.{sheetLength}
@@ -28,7 +28,7 @@ use Rattle.jobs.specs.Lawful.{LawfulJob}
 use Rattle.jobs.proofs.Components.{in-leads, lead-in, joined-iff, component-iff}
 use Rattle.jobs.proofs.Numbering.{lead-iff, group-is}
 use Rattle.jobs.proofs.Assembly.{none-without, component-length, outside-zero, solves-iff}
-use Rattle.jobs.proofs.Writing.{within-holds}
+use Rattle.bytes.proofs.TwosComplement.{within-holds}
 use Rattle.jobs.proofs.Fields.{number-back, base-back, step-back, fits-back, chosen-back, gain-back, laidOut-back, if-planned}
 use Rattle.jobs.proofs.Promises.{optimal-best, number-within, planned-when, lawful-of, gives-fits}
 use Rattle.families.specs.Family.{member, IsFamily, familyRun}

@@ -13,7 +13,7 @@ use Rattle.lists.specs.Keep.{keep}
 use Rattle.lists.specs.Sums.{sum, sumOf}
 use Rattle.lists.specs.Table.{table, upTo}
 use Rattle.runs.specs.declared.Run.{Run}
-use Rattle.jobs.specs.Bytes.{bytesOf, signedBytes}
+use Rattle.bytes.specs.LittleEndian.{bytesOf, signedBytes}
 use Rattle.jobs.specs.Decide.{equal?, firstOf}
 use Rattle.jobs.specs.Job.{Job, jobOf, variable}
 use Rattle.jobs.specs.Component.{leads}

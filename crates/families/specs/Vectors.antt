@@ -15,7 +15,7 @@ use Rattle.lists.proofs.Maps.{same-values}
 use Rattle.runs.specs.declared.Run.{Run}
 use Rattle.runs.specs.declared.Equation.{Equation as Form}
 use Rattle.runs.specs.Run.{empty, full}
-use Rattle.jobs.specs.Bytes.{unsigned, u16}
+use Rattle.bytes.specs.LittleEndian.{unsigned, u16}
 use Rattle.jobs.specs.Decide.{equal?, firstOf}
 use Rattle.jobs.specs.Job.{jobOf}
 use Rattle.jobs.specs.Component.{leads, componentCount}

@@ -10,7 +10,7 @@ use Rattle.runs.specs.Run.{bound}
 use Rattle.lists.specs.Table.{upTo}
 use Rattle.lists.proofs.Places.{length-both, drop-past, length-flatMap}
 use Rattle.lists.proofs.Table.{table-at, length-upTo}
-use Rattle.jobs.specs.Bytes.{unsigned, bytesOf, signedBytes}
+use Rattle.bytes.specs.LittleEndian.{unsigned, bytesOf, signedBytes}
 use Rattle.jobs.specs.Job.{Job, jobOf}
 use Rattle.jobs.specs.Solution.{number, best}
 use Rattle.jobs.specs.Layout.{groupRowsAt as groupRows, sheetLength}
@@ -19,7 +19,8 @@ use Rattle.jobs.specs.Family.{componentJob, fits, base, step, chosen, sl
 use Rattle.jobs.specs.Verdict.{Verdict, planned, noFit, refused, verdict}
 use Rattle.jobs.specs.Sheet.{header, variableFields, componentFields, laidOut, areaAfter, sheet}
 use Rattle.jobs.specs.Demands.{worthOn, numberOn, baseOn, stepOn, fitsOn, chosenOn, gainOn, LaidOut}
-use Rattle.jobs.proofs.Writing.{Holds, within-holds, unsigned-first, unsigned-past, unsigned-part, unsigned-bytesOf, signed-field}
+use Rattle.bytes.proofs.LittleEndian.{unsigned-first, unsigned-past, unsigned-part, unsigned-bytesOf}
+use Rattle.bytes.proofs.TwosComplement.{Holds, within-holds, signed-field}
 use Rattle.jobs.proofs.Components.{length-leads, component-below, component-lead}
 use Rattle.jobs.proofs.Numbering.{numbered-by}
 

@@ -1,8 +1,6 @@
 -- The laws of jobs, in the order in which they rest on each other. Other crates go by Solutions, Components and Assembly, and
 -- find in Faults when a job is turned away and in Lawful what is known of one that is not.
 
--- numbers in bytes, as the code reads them
-pub mod Reading
 -- the rows of the job that bytes say
 pub mod JobOf
 -- what a branch on a test says
@@ -27,8 +25,6 @@ pub mod Numbering
 pub mod Assembly
 -- where the best stands among the solutions
 pub mod Chosen
--- numbers written in bytes read back
-pub mod Writing
 -- where the fields of a sheet stand
 pub mod Fields
 -- the definitions keep the demands, as far as that needs no families

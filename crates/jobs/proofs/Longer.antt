@@ -11,7 +11,7 @@ use lib.Seq.{take-all, length-take-le, take-append-le}
 use Rattle.reasons.specs.declared.Reason.{Reason}
 use Rattle.reasons.specs.declared.Reason.the-variants.{ShortJob, WrongMark, TooMany, WrongHeader, ShortArea}
 use Rattle.reasons.specs.Numbers.{numberOf, rowOf}
-use Rattle.jobs.specs.Bytes.{unsigned}
+use Rattle.bytes.specs.LittleEndian.{unsigned}
 use Rattle.jobs.specs.Job.{jobOf, variableCount, equationCount}
 use Rattle.jobs.specs.Table.{mark, Header, headerChecks, rowChecks, checks}
 use Rattle.jobs.specs.Decide.{atMost?, below?, either, list?, firstOf}
@@ -19,7 +19,7 @@ use Rattle.jobs.specs.Faults.{broken?, firstBroken}
 use Rattle.jobs.specs.Verdict.{refused, firstWithout, outcome, short?, verdict}
 use Rattle.jobs.specs.Sheet.{sheet}
 use Rattle.jobs.proofs.Firsts.{first-here, first-later, first-stays}
-use Rattle.jobs.proofs.Writing.{unsigned-first}
+use Rattle.bytes.proofs.LittleEndian.{unsigned-first}
 use Rattle.jobs.proofs.Fields.{if-refused}
 use Rattle.jobs.proofs.Promises.{verdict-is}
 

@@ -29,7 +29,7 @@ use Rattle.jobs.specs.Sheet.{laidOut, sheet}
 use Rattle.jobs.specs.Demands.{worthOn, numberOn, numbersOn, TurnsAway, LaidOut, NoneFits, CannotBeBettered, FamiliesOn, NotTurnedAway, GivesFits}
 use Rattle.jobs.proofs.Faults.{first-by, reported-iff, sound-iff}
 use Rattle.jobs.proofs.Lawful.{lawful-named, lawful}
-use Rattle.jobs.proofs.Writing.{within-holds}
+use Rattle.bytes.proofs.TwosComplement.{within-holds}
 use Rattle.jobs.proofs.Fields.{number-back, worth-back, laidOut-back, if-planned, if-noFit, if-refused, length-sheet, drop-sheet}
 use Rattle.jobs.proofs.Solutions.{best-is}
 use Rattle.jobs.proofs.Components.{in-leads}

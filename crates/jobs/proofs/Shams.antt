@@ -14,7 +14,7 @@ use Rattle.lists.specs.Table.{table}
 use Rattle.lists.proofs.Rising.{rising-distinct, same-length}
 use Rattle.lists.proofs.Table.{in-table, rising-table, length-table, table-at}
 use Rattle.lists.proofs.Lexicographic.{lower-asym}
-use Rattle.jobs.specs.Bytes.{unsigned}
+use Rattle.bytes.specs.LittleEndian.{unsigned}
 use Rattle.jobs.specs.Job.{Job, jobOf, variable}
 use Rattle.jobs.specs.Solution.{number, IsSolution, best}
 use Rattle.jobs.specs.Layout.{sheetLength}

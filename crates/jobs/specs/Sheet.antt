@@ -4,7 +4,7 @@ use Prim.Native.Nat.{ℕ, _+_}
 use lib.ListN.{length, drop}
 use lib.IntN.{ℤ}
 use Rattle.lists.specs.Table.{table, upTo}
-use Rattle.jobs.specs.Bytes.{bytesOf, signedBytes}
+use Rattle.bytes.specs.LittleEndian.{bytesOf, signedBytes}
 use Rattle.jobs.specs.Job.{Job, jobOf}
 use Rattle.jobs.specs.Solution.{number, best}
 use Rattle.jobs.specs.Layout.{groupRowsAt as groupRows, sheetLength}

@@ -8,7 +8,7 @@ use lib.IntN.{ℤ, pos, _+ℤ_, _*ℤ_}
 use Rattle.lists.specs.Members.{_∈_}
 use Rattle.lists.specs.Table.{table}
 use Rattle.lists.proofs.Maps.{same-values}
-use Rattle.jobs.specs.Bytes.{u16, u32}
+use Rattle.bytes.specs.LittleEndian.{u16, u32}
 use Rattle.jobs.specs.Job.{Job, jobOf}
 use Rattle.jobs.specs.Solution.{number, solutions, objective, best}
 use Rattle.jobs.specs.Layout.{groupRowsAt}

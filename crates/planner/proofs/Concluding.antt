@@ -31,12 +31,12 @@ use Rattle.families.specs.Plan.{leadsBy, componentBy, headerRow, variableRow, g
 use Rattle.families.proofs.Exact.{family-run-is, family-form}
 use Rattle.families.proofs.Planned.{leads-by, empty-by, worth-by, laid-by}
 use Rattle.planner.specs.Analysis.{State, Families}
-use Rattle.planner.specs.Area.{over}
+use Rattle.bytes.specs.Over.{over}
 use Rattle.planner.specs.Groups.{Labelled, Lowest}
 use Rattle.planner.specs.Choices.{groupIn, runIn, Members, NoneEmpty, Gains, numberIn, worthOf, variableRowsOf, groupRowOf, groupRowsOf, sheetOf}
 use Rattle.planner.specs.Outcome.{worthOfBest, sheetOfBest}
 use Rattle.planner.proofs.Leads.{leads-below}
-use Rattle.planner.proofs.Overwriting.{over-all}
+use Rattle.bytes.proofs.Over.{over-all}
 
 module _ (s : List ℕ) (z : Lawful s) (x : State) (f : Families (jobOf s) x) where
   abbrev j : Job

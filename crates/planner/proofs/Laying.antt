@@ -13,10 +13,10 @@ use Rattle.lists.proofs.Table.{table-next, in-upTo, length-upTo}
 use Rattle.runs.specs.declared.Run.{Run}
 use Rattle.families.specs.Family.{choice}
 use Rattle.families.specs.Plan.{leadsBy, headerRow, variableRow, groupRow}
-use Rattle.planner.specs.Area.{over}
+use Rattle.bytes.specs.Over.{over}
 use Rattle.planner.specs.Choices.{groupIn, runIn, numberIn, variableRowsOf, groupRowOf, groupRowsOf}
 use Rattle.planner.proofs.Leads.{leads-none, leads-yes, leads-no}
-use Rattle.planner.proofs.Overwriting.{over-over, length-over}
+use Rattle.bytes.proofs.Over.{over-over, length-over}
 
 -- ---- how wide they are
 pub length-headerRow : (n g : ℕ) (worth : ℤ) → length (headerRow n g worth) ≡ 24

@@ -22,8 +22,6 @@ pub mod Rows
 pub mod Following
 -- a job that the check accepts
 pub mod Accepting
--- bytes written over others
-pub mod Overwriting
 -- the lowest variables of the groups, one after the other
 pub mod Leads
 -- the rows of a sheet, one behind the other

@@ -14,7 +14,5 @@ pub mod Groups
 pub mod Steps
 -- how large the numbers are
 pub mod Widths
--- bytes that are written over
-pub mod Area
 -- the choice, and the rows of the sheet
 pub mod Choices

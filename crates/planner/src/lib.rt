@@ -37,8 +37,6 @@ mod range;
 mod equations;
 // the choice in each group
 mod choose;
-// numbers written into bytes
-mod bytes;
 // the sheet
 mod sheet;
 

@@ -7,7 +7,7 @@ use Rattle.ints.proofs.Signed.{held}
 use Rattle.jobs.specs.Job.{jobOf}
 use Rattle.jobs.specs.Verdict.{planned}
 use Rattle.jobs.proofs.JobOf.{variables-of}
-use Rattle.planner.specs.Area.{over}
+use Rattle.bytes.specs.Over.{over}
 use Rattle.planner.specs.Choices.{worthOf, sheetOf}
 use Rattle.planner.proofs.Sizes.{fits}
 use Rattle.planner.proofs.Adding.{n-at-most, worth-within}

@@ -10,10 +10,10 @@ use lib.IntN.{ℤ, pos}
 use Rattle.runs.specs.declared.Run.{Run}
 use Rattle.families.specs.Family.{choice}
 use Rattle.families.specs.Plan.{leadsBy, groupRow}
-use Rattle.planner.specs.Area.{over}
+use Rattle.bytes.specs.Over.{over}
 use Rattle.planner.specs.Choices.{groupIn, runIn, groupRowOf, groupRowsOf}
 use Rattle.planner.proofs.Leads.{leads-none, leads-yes, leads-no, leads-length, leads-mono}
-use Rattle.planner.proofs.Overwriting.{over-none, over-same}
+use Rattle.bytes.proofs.Over.{over-none, over-same}
 use Rattle.planner.proofs.Sizes.{held-element}
 use Rattle.planner.proofs.Laying.{laid, laid-length, groups-none, groups-yes, groups-no, length-groups}
 use Rattle.planner.proofs.sheet.components.Statement.{statement}

@@ -5,13 +5,13 @@ use native.Mathlib.Omega.{arith}
 use borrow.Author.Needs.{needs}
 use lib.ListN.{getD}
 use Rattle.families.specs.Plan.{variableRow}
-use Rattle.planner.specs.Area.{over}
+use Rattle.bytes.specs.Over.{over}
 use lib.IntN.{pos}
 use Rattle.ints.specs.Within.{Within}
 use Rattle.planner.specs.Choices.{groupIn, runIn, numberAt, variableRowsOf}
 use Rattle.planner.proofs.Sizes.{held-element}
 use Rattle.planner.proofs.Choosing.{number-within, held-number}
-use Rattle.planner.proofs.Overwriting.{over-none, over-same}
+use Rattle.bytes.proofs.Over.{over-none, over-same}
 use Rattle.planner.proofs.Laying.{laid, laid-length, variables-none, variables-next, length-variables}
 use Rattle.planner.proofs.sheet.variables.Statement.{statement}
 use Rattle.planner.proofs.sheet.variables.Tie as tie

@@ -12,11 +12,11 @@ use Rattle.lists.specs.Table.{table}
 use Rattle.lists.proofs.Table.{table-at}
 use Rattle.runs.specs.declared.Run.{Run}
 use Rattle.families.specs.Plan.{leadsBy, componentBy, headerRow}
-use Rattle.planner.specs.Area.{over}
+use Rattle.bytes.specs.Over.{over}
 use Rattle.planner.specs.Arrays.{Holds}
 use Rattle.planner.specs.Choices.{groupIn, variableRowsOf, groupRowsOf, sheetOf}
 use Rattle.planner.proofs.Leads.{leads-length}
-use Rattle.planner.proofs.Overwriting.{over-same, over-lent, Written, behind-it, length-over}
+use Rattle.bytes.proofs.Over.{over-same, over-lent, Written, behind-it, length-over}
 use Rattle.planner.proofs.Laying.{length-headerRow, variables-same, length-variables, length-groups}
 use Rattle.planner.proofs.sheet.write.Statement.{statement}
 use Rattle.planner.proofs.sheet.write.Tie as tie
