@@ -9,7 +9,7 @@ use Rattle.lists.proofs.Places.{getD-past, flatMap-at}
 use Rattle.bytes.specs.LittleEndian.{unsigned, bytesOf}
 
 -- ---- where a number is read: only its own k bytes count
-pub unsigned-same : (k : ℕ) (s t : List ℕ) (a b : ℕ) → ((i : ℕ) → i < k → getD s (a + i) 0 ≡ getD t (b + i) 0) → unsigned k s a ≡ unsigned k t b
+unsigned-same : (k : ℕ) (s t : List ℕ) (a b : ℕ) → ((i : ℕ) → i < k → getD s (a + i) 0 ≡ getD t (b + i) 0) → unsigned k s a ≡ unsigned k t b
 unfolding unsigned
 unsigned-same zero s t a b f = refl
 unsigned-same (suc k) s t a b f = ap₂ (λ u v. u + 256 * v) (head (f 0 (omega arith))) (unsigned-same k s t (a + 1) (b + 1) later)

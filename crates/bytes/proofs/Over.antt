@@ -68,7 +68,7 @@ behind-it {at} {w} {a} {b} {x} h l {next} {v} c {y} e n k = record {
 }
 
 -- a part that begins at a place
-pub over-part : (at : ℕ) (b a : List ℕ) → at ≤ length a → take at a ++ over 0 b (drop at a) ≡ over at b a
+over-part : (at : ℕ) (b a : List ℕ) → at ≤ length a → take at a ++ over 0 b (drop at a) ≡ over at b a
 over-part zero b a h = refl
 over-part (suc at) b [] h = absurd (omega arith)
 over-part (suc at) b (x ∷ a) h = ap (λ r. x ∷ r) (over-part at b a (omega arith)) ∙ sym (over-cons at b x a)

@@ -81,7 +81,7 @@ double p m x h w = lin (x ∷ pos p ∷ []) w (search facts depth 20) (omega ari
 pub within-holds : (k m : ℕ) (x : ℤ) → 2 * m < 256 ^ k → Within m x → Holds k x
 within-holds k m x h w = let (a, b) = double (256 ^ k) m x h w in record { low = a; high = b }
 
-pub twosComplement-back : (k : ℕ) (x : ℤ) → Holds k x → twosComplement k (natAbs (floorMod x (pos (256 ^ k)))) ≡ x
+twosComplement-back : (k : ℕ) (x : ℤ) → Holds k x → twosComplement k (natAbs (floorMod x (pos (256 ^ k)))) ≡ x
 twosComplement-back k x h = back (256 ^ k) x (h .low) (h .high)
 
 signedBytes-is : (k : ℕ) (x : ℤ) → signedBytes k x ≡ bytesOf k (natAbs (floorMod x (pos (256 ^ k))))

@@ -29,12 +29,12 @@ use Rattle.jobs.specs.Component.{lowest, leads, componentCount, component}
 use Rattle.jobs.specs.Family.{componentJob, fits, step, chosen, slope}
 use Rattle.jobs.specs.Verdict.{Verdict, planned, noFit, refused, firstWithout, outcome, verdict}
 use Rattle.jobs.specs.Sheet.{header, variableFields, componentFields, laidOut, sheet}
-use Rattle.jobs.proofs.Firsts.{first-same}
+use Rattle.jobs.proofs.FirstOf.{first-same}
 use Rattle.jobs.specs.Lawful.{LawfulJob}
 use Rattle.jobs.proofs.Components.{in-leads, lead-in}
 use Rattle.jobs.proofs.Assembly.{none-without}
 use Rattle.jobs.proofs.Fields.{length-laidOut, if-planned, if-noFit, if-refused}
-use Rattle.jobs.proofs.Promises.{optimal-best, number-within as best-within, objective-within, fault, verdict-is, planned-when, lawful-of}
+use Rattle.jobs.proofs.DemandsHold.{optimal-best, number-within as best-within, objective-within, fault, verdict-is, planned-when, lawful-of}
 use Rattle.families.specs.Family.{familyRun, choice}
 use Rattle.families.specs.Model.{groupAt, runAt, families}
 use Rattle.families.specs.Plan.{leadsBy, componentBy, headerRow, variableRow, groupRow, emptyBy, gainBy, chosenBy, numberBy, worthBy, variableRows, groupRows, laidOutBy, outcomeBy, verdictBy, written, sheetBy}

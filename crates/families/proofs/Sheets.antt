@@ -30,7 +30,7 @@ use Rattle.jobs.proofs.Numbering.{lead-iff, group-is}
 use Rattle.jobs.proofs.Assembly.{none-without, component-length, outside-zero, solves-iff}
 use Rattle.bytes.proofs.TwosComplement.{within-holds}
 use Rattle.jobs.proofs.Fields.{number-back, base-back, step-back, fits-back, chosen-back, gain-back, laidOut-back, if-planned}
-use Rattle.jobs.proofs.Promises.{optimal-best, number-within, planned-when, lawful-of, gives-fits}
+use Rattle.jobs.proofs.DemandsHold.{optimal-best, number-within, planned-when, lawful-of, gives-fits}
 use Rattle.families.specs.Family.{member, IsFamily, familyRun}
 use Rattle.families.proofs.Sizes.{first-within, step-within, many-within}
 use Rattle.families.proofs.Exact.{same-table, family-form, are-families}

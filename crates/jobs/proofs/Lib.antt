@@ -6,9 +6,9 @@ pub mod JobOf
 -- what a branch on a test says
 pub mod Branches
 -- the first member of a list of which a statement holds
-pub mod Firsts
+pub mod FirstOf
 -- a walk through the rows of a job
-pub mod Walks
+pub mod RowChecks
 -- a reason is reported exactly when its rule is broken and none before it
 pub mod Faults
 -- what is known of a job that no check turns away
@@ -28,11 +28,11 @@ pub mod Chosen
 -- where the fields of a sheet stand
 pub mod Fields
 -- the definitions keep the demands, as far as that needs no families
-pub mod Promises
+pub mod DemandsHold
 -- verdict and sheet, case by case
 pub mod Outcomes
 -- of a list longer than any lawful job the first part is answered as the whole
-pub mod Longer
+pub mod LongInput
 -- the sham planners of document 01, each refused by the demand that is named beside it
 pub mod Shams
 -- job M by the sentences on groups

@@ -1,5 +1,5 @@
 -- What a job is, when it is turned away, what a plan of it is, and what is demanded of one. Read in this order. To be believed is
--- all of it but the decisions in Decide and Faults, Lawful, Bounds, and Vectors, which is theorems.
+-- all of it but the decisions in Decide and Faults, Lawful, Bounds, JobBytes, and Vectors, which is theorems.
 
 -- the bytes of a job as variables and equations
 pub mod Job
@@ -27,5 +27,7 @@ pub mod Demands
 pub mod Lawful
 -- a job with other bounds, likewise
 pub mod Bounds
+-- the bytes of small jobs
+pub mod JobBytes
 -- small jobs through all of them
 pub mod Vectors

@@ -10,7 +10,7 @@ use Rattle.lists.proofs.Table.{from-next, from-end, from-start}
 use Rattle.jobs.specs.Table.{Broken, NoArea, equationChecks}
 use Rattle.jobs.specs.Decide.{firstOf}
 use Rattle.jobs.specs.Faults.{broken?, noArea?}
-use Rattle.jobs.proofs.Firsts.{first-none, first-here, first-later}
+use Rattle.jobs.proofs.FirstOf.{first-none, first-here, first-later}
 
 module _ (s : List ℕ) where
   abbrev first : List Reason → Option Reason

@@ -18,10 +18,10 @@ use Rattle.jobs.specs.Decide.{atMost?, below?, either, list?, firstOf}
 use Rattle.jobs.specs.Faults.{broken?, firstBroken}
 use Rattle.jobs.specs.Verdict.{refused, firstWithout, outcome, short?, verdict}
 use Rattle.jobs.specs.Sheet.{sheet}
-use Rattle.jobs.proofs.Firsts.{first-here, first-later, first-stays}
+use Rattle.jobs.proofs.FirstOf.{first-here, first-later, first-stays}
 use Rattle.bytes.proofs.LittleEndian.{unsigned-first}
 use Rattle.jobs.proofs.Fields.{if-refused}
-use Rattle.jobs.proofs.Promises.{verdict-is}
+use Rattle.jobs.proofs.DemandsHold.{verdict-is}
 
 -- ---- the reason, where there are too many bytes: by the mark and the counts alone
 abbrev TooHigh : ℕ → ℕ → Type 0
@@ -85,7 +85,7 @@ module _ (xs ys area : List ℕ) (long : 23576 < length xs) where
       carried r h = rw (take-append-le 4 xs ys (omega (arith, long)), field 2 4 (omega arith), field 2 6 (omega arith)) h
 
 -- however much more than that is taken
-pub taken-same : (n : ℕ) → 23576 < n → (s area : List ℕ) → Same (take n s) s area
+taken-same : (n : ℕ) → 23576 < n → (s area : List ℕ) → Same (take n s) s area
 taken-same n h s area = go (atMost? (length s) n)
   where
     go : Dec (length s ≤ n) → Same (take n s) s area
