@@ -3,7 +3,7 @@
 ghost use mathlib.Core.Path.{_≡_};
 ghost use Prim.Native.Nat.{_%_};
 ghost use Rattle.build.specs.Numbers.{residue64};
-ghost use Rattle.build.specs.Parts.{storeAt, putAt, variableRow, equationRow, putHeader, putVariable, putEquation};
+ghost use Rattle.build.specs.Parts.{storeAt, putAt, variableRowAt, equationRowAt, putHeader, putVariable, putEquation};
 
 // pseudo-random numbers
 pub mod random;
@@ -59,14 +59,14 @@ pub fn bits(x: i64) -> u64
 
 /// Where a variable's row begins.
 pub fn variable_row(i: u16) -> u32
-    ensures { λ r. ⌜ r ≡ variableRow i ⌝ }
+    ensures { λ r. ⌜ r ≡ variableRowAt i ⌝ }
 {
     24 + 12 * i as u32
 }
 
 /// Where an equation's row begins, and with m for k the whole length.
 pub fn equation_row(n: u16, k: u16) -> u32
-    ensures { λ r. ⌜ r ≡ equationRow n k ⌝ }
+    ensures { λ r. ⌜ r ≡ equationRowAt n k ⌝ }
 {
     24 + 12 * n as u32 + 20 * k as u32
 }

@@ -7,7 +7,7 @@ use Prim.Native.Nat.{ℕ, _-_, _≤_, _<_}
 use native.Mathlib.Decide.{ℕ-discrete, decLt}
 use lib.ListN.{length, getD}
 use Rattle.ints.proofs.{ℤ, pos, _+ℤ_, _*ℤ_, _≤ℤ_, _<ℤ_, ltZ, List, [], _∷_, arith, lin, lin₀, facts, le-or-lt}
-use Rattle.ints.proofs.Order.{lt-true, lt-false, le-antisym}
+use Rattle.ints.proofs.Order.{lt-true, lt-false, le-antisym, pos-below}
 use Rattle.lists.specs.Table.{table}
 use Rattle.lists.specs.Lexicographic.{Lower}
 use Rattle.lists.specs.Best.{greater, earlier}
@@ -20,7 +20,7 @@ use Rattle.jobs.specs.Solution.{number, IsSolution, solutions, objective, Earli
 use Rattle.jobs.specs.Family.{fits, base, step, chosen, slope}
 use Rattle.jobs.proofs.Solutions.{in-solutions, rising-solutions, best-only}
 use Rattle.jobs.proofs.Chosen.{chosen-at}
-use Rattle.families.proofs.LinearFunctions.{line-up, line-down, line-level, pos-below}
+use Rattle.families.proofs.LinearFunctions.{line-up, line-down, line-level}
 use Rattle.families.specs.Family.{member, choice}
 
 -- ---- the objective along a family

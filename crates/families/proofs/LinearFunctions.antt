@@ -1,6 +1,5 @@
 -- A line w + g·x that rises, one that falls, and a level one.
 use mathlib.Core.Path.{_≡_}
-use Prim.Native.Nat.{ℕ, _<_}
 use Rattle.ints.proofs.{ℤ, pos, _+ℤ_, _*ℤ_, _≤ℤ_, _<ℤ_, [], _∷_, arith, lin, lin₀, _&_, facts, prod}
 
 next : {x y : ℤ} → x <ℤ y → (x +ℤ pos 1) ≤ℤ y
@@ -14,6 +13,3 @@ line-down w g x y h l = lin (w ∷ g ∷ x ∷ y ∷ []) (prod (next h) (next l)
 
 pub line-level : (w g x y : ℤ) → g ≡ pos 0 → w +ℤ g *ℤ x ≡ w +ℤ g *ℤ y
 line-level w g x y e = rw e (lin₀ (w ∷ x ∷ y ∷ []) (search facts depth 20) (omega arith))
-
-pub pos-below : {i k : ℕ} → i < k → pos i <ℤ pos k
-pos-below {i} {k} h = lin (pos i ∷ pos k ∷ []) h (search facts depth 20) (omega arith)

@@ -29,12 +29,12 @@ use Rattle.jobs.specs.Family.{componentJob, fits, step, chosen, slope, familyRu
 use Rattle.jobs.specs.Verdict.{Verdict, planned, noFit, refused, firstWithout, outcome, verdict}
 use Rattle.jobs.specs.Findings.{findings}
 use Rattle.jobs.specs.Sheet.{laidOut, areaAfter, sheet}
-use Rattle.jobs.proofs.Firsts.{first-same}
+use Rattle.jobs.proofs.FirstOf.{first-same}
 use Rattle.jobs.specs.Lawful.{LawfulJob}
 use Rattle.jobs.proofs.Components.{in-leads, lead-in}
 use Rattle.jobs.proofs.Assembly.{none-without}
 use Rattle.jobs.proofs.Fields.{Agree, same-layout, if-planned, if-noFit, if-refused}
-use Rattle.jobs.proofs.Promises.{fault, verdict-is, planned-when, lawful-of}
+use Rattle.jobs.proofs.DemandsHold.{fault, verdict-is, planned-when, lawful-of}
 use Rattle.families.specs.Family.{choice}
 use Rattle.families.specs.Model.{groupAt, runAt, stateAfterAll}
 use Rattle.families.specs.Plan.{leadsBy, componentBy, emptyBy, gainBy, chosenBy, numberBy, worthBy, findingsBy, modelFindings, modelEmpty, verdictBy, sheetBy}

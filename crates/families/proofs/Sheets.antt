@@ -16,7 +16,7 @@ use Rattle.lists.specs.Members.{_∈_}
 use Rattle.lists.proofs.Table.{table-at, same-table}
 use Rattle.runs.specs.Run.{bound}
 use Rattle.families.specs.FamilyRun.{FamilyRun}
-use Rattle.jobs.specs.Bytes.{u16}
+use Rattle.bytes.specs.LittleEndian.{u16}
 use Rattle.jobs.specs.Job.{Job, jobOf}
 use Rattle.jobs.specs.Solution.{number, IsSolution, objective, best}
 use Rattle.jobs.specs.Component.{lowest, leads, component}
@@ -29,9 +29,9 @@ use Rattle.jobs.specs.Lawful.{LawfulJob}
 use Rattle.jobs.proofs.Components.{in-leads, lead-in, lowest-self, joined-iff, component-iff, component-below, component-lead}
 use Rattle.jobs.proofs.Numbering.{lead-iff, group-is}
 use Rattle.jobs.proofs.Assembly.{none-without, component-length, outside-zero, solves-iff}
-use Rattle.jobs.proofs.Writing.{within-holds}
+use Rattle.bytes.proofs.TwosComplement.{within-holds}
 use Rattle.jobs.proofs.Fields.{number-back, base-back, step-back, fits-back, chosen-back, gain-back, laidOut-back, if-planned}
-use Rattle.jobs.proofs.Promises.{optimal-best, number-within, planned-when, lawful-of, gives-fits}
+use Rattle.jobs.proofs.DemandsHold.{optimal-best, number-within, planned-when, lawful-of, gives-fits}
 use Rattle.families.specs.Family.{member, IsFamily}
 use Rattle.families.proofs.FamilySizes.{first-within, step-within, many-within}
 use Rattle.families.proofs.Exact.{readOff, family-run-is, family-form, are-families}

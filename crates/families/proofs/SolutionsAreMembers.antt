@@ -28,7 +28,8 @@ use Rattle.jobs.specs.Family.{componentJob}
 use Rattle.jobs.proofs.Components.{lowest-le}
 use Rattle.jobs.proofs.Solutions.{in-solutions, rising-solutions}
 use Rattle.jobs.proofs.Assembly.{outside-zero, holds-iff, Between, between, component-length, variable-inside, variable-outside, in-equations}
-use Rattle.families.proofs.LinearFunctions.{line-up, pos-below}
+use Rattle.ints.proofs.Order.{pos-below}
+use Rattle.families.proofs.LinearFunctions.{line-up}
 use Rattle.families.specs.Model.{State, runAt}
 use Rattle.families.specs.Invariant.{Keeps, OnFamily, Invariant}
 use Rattle.families.proofs.Subfamily.{at-rest}

@@ -3,7 +3,7 @@ use mathlib.Core.Path.{_≡_, refl, ap}
 use mathlib.Core.Bool.{Bool, true, false}
 use mathlib.Core.Option.{Option, none, some}
 use mathlib.Core.List.{List, [], _∷_, _++_, map}
-use Prim.Native.Nat.{ℕ, _+_, _*_, _-_}
+use Prim.Native.Nat.{ℕ, _+_, _*_}
 use lib.Dec.{eqb}
 use lib.ListN.{length, drop}
 use lib.IntN.{ℤ, pos, negℤ}
@@ -15,13 +15,14 @@ use Rattle.lists.proofs.Maps.{same-values}
 use Rattle.runs.specs.declared.Run.{Run}
 use Rattle.runs.specs.declared.Equation.{Equation as Form}
 use Rattle.runs.specs.Run.{empty, full}
-use Rattle.jobs.specs.Bytes.{unsigned, u16}
+use Rattle.bytes.specs.LittleEndian.{unsigned, u16}
 use Rattle.jobs.specs.Decide.{equal?, firstOf}
 use Rattle.jobs.specs.Job.{jobOf}
 use Rattle.jobs.specs.Component.{leads, componentCount}
 use Rattle.jobs.specs.Faults.{Answer, accepted, checked}
 use Rattle.jobs.specs.Verdict.{Verdict, planned, noFit, refused}
 use Rattle.jobs.specs.Demands.{baseOn, stepOn, groupOn, fitsOn}
+use Rattle.jobs.specs.JobBytes.{plus, minus, header, count, plain, equation, total, difference}
 use Rattle.jobs.specs.Vectors.{Vector, fitted, vectors}
 use Rattle.families.specs.Family.{choice}
 use Rattle.families.specs.Model.{State, groupAt, runAt, interval, through, candidate, cycle, Indices, commonNumbers, directed, kept, stateAfterAll}
@@ -45,35 +46,6 @@ pub record Worked : Type 0 where
 -- what stands in the area afterwards: those bytes, and behind them what stood there before
 abbrev pub after : Worked → List ℕ → List ℕ
 after v area = v .sheet ++ drop (length (v .sheet)) area
-
--- four bytes of k and of −k, for k from 1 to 255; those of 0 are `plus 0`
-abbrev plus : ℕ → List ℕ
-plus k = k ∷ 0 ∷ 0 ∷ 0 ∷ []
-
-abbrev minus : ℕ → List ℕ
-minus k = (256 - k) ∷ 255 ∷ 255 ∷ 255 ∷ []
-
--- n counts and m equations; where the equation rows begin, and where they end. All of them fit one byte, and so do left, right
--- and c below.
-abbrev header : ℕ → ℕ → ℕ → ℕ → List ℕ
-header n m rows whole = 70 ∷ 73 ∷ 84 ∷ 49 ∷ n ∷ 0 ∷ m ∷ 0 ∷ 24 ∷ 0 ∷ 0 ∷ 0 ∷ rows ∷ 0 ∷ 0 ∷ 0 ∷ whole ∷ 0 ∷ 0 ∷ 0 ∷ 0 ∷ 0 ∷ 0 ∷ 0 ∷ []
-
-abbrev count : List ℕ → List ℕ → List ℕ → List ℕ
-count low high weight = low ++ high ++ weight
-
--- 0..high, without weight
-abbrev plain : ℕ → List ℕ
-plain high = count (plus 0) (plus high) (plus 0)
-
-abbrev equation : ℕ → ℕ → List ℕ → List ℕ → ℕ → List ℕ
-equation left right a b c = left ∷ 0 ∷ right ∷ 0 ∷ [] ++ a ++ b ++ c ∷ 0 ∷ 0 ∷ 0 ∷ 0 ∷ 0 ∷ 0 ∷ 0 ∷ []
-
--- c0 + c1 = c and c0 − c1 = c
-abbrev total : ℕ → List ℕ
-total c = equation 0 1 (plus 1) (plus 1) c
-
-abbrev difference : ℕ → List ℕ
-difference c = equation 0 1 (plus 1) (minus 1) c
 
 -- two counts with one equation, and with two
 abbrev once : List ℕ → List ℕ → List ℕ → List ℕ
@@ -202,11 +174,11 @@ markedJobs =
     -- 3·c0 − 5·c1 = 0: of 1..4 none is a multiple of 5
     without (once (count (plus 1) (plus 4) (plus 0)) (plain 9) (equation 0 1 (plus 3) (minus 5) 0)) ∷
     -- a ring whose single candidate is 3½ and 1½, and one where it is 3 and 2
-    without (twice (plain 9) (plain 9) (total 5) (difference 2)) ∷
-    tied (twice (plain 9) (plain 9) (total 5) (difference 1)) (run (pos 3) (pos 0) 1) (run (pos 2) (pos 0) 1) (planned (pos 0)) singleSheet ∷
+    without (twice (plain 9) (plain 9) (total 0 1 5) (difference 0 1 2)) ∷
+    tied (twice (plain 9) (plain 9) (total 0 1 5) (difference 0 1 1)) (run (pos 3) (pos 0) 1) (run (pos 2) (pos 0) 1) (planned (pos 0)) singleSheet ∷
     -- a ring that is redundant, and one that leaves none
-    tied (twice (plain 3) (plain 3) (difference 0) (difference 0)) (run (pos 0) (pos 1) 4) (run (pos 0) (pos 1) 4) (planned (pos 0)) redundantSheet ∷
-    without (twice (plain 3) (plain 3) (difference 0) (difference 1)) ∷
+    tied (twice (plain 3) (plain 3) (difference 0 1 0) (difference 0 1 0)) (run (pos 0) (pos 1) 4) (run (pos 0) (pos 1) 4) (planned (pos 0)) redundantSheet ∷
+    without (twice (plain 3) (plain 3) (difference 0 1 0) (difference 0 1 1)) ∷
     -- c0 + 2·c1 = 0
     tied (once (count (minus 5) (plus 5) (plus 0)) (count (minus 3) (plus 3) (plus 1)) (equation 0 1 (plus 1) (plus 2) 0))
     (run (negℤ (pos 4)) (pos 2) 5) (run (pos 2) (negℤ (pos 1)) 5) (planned (pos 2)) slantedSheet ∷

@@ -26,7 +26,7 @@ use Rattle.jobs.specs.Family.{componentJob, fits}
 use Rattle.jobs.specs.Decide.{equal?}
 use Rattle.jobs.specs.Verdict.{firstWithout}
 use Rattle.jobs.specs.Demands.{SolvesGroup}
-use Rattle.jobs.proofs.Firsts.{first-rising, none-holds}
+use Rattle.jobs.proofs.FirstOf.{first-rising, none-holds}
 use Rattle.jobs.proofs.Solutions.{in-solutions, none-iff, best-is}
 use Rattle.jobs.proofs.Components.{chain-edge, joined-iff, rising-leads, lead-in}
 

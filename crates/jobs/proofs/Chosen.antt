@@ -1,6 +1,6 @@
 -- Where the best stands among the solutions: 01's chosen k of a group.
-use mathlib.Core.Path.{_≡_, refl, sym, _∙_, ap, ap₂}
-use mathlib.Core.Logic.{_↔_, _≢_}
+use mathlib.Core.Path.{_≡_, refl, _∙_, ap, ap₂}
+use mathlib.Core.Logic.{_≢_}
 use mathlib.Core.Bool.{Bool, true, false, false≢true, and-eq-true-iff}
 use Prim.Native.Nat.{ℕ, _<_}
 use lib.ListN.{length, getD}
@@ -29,10 +29,7 @@ agree-self : (xs : List ℤ) → agree xs xs ≡ true
 agree-self [] = refl
 agree-self (x ∷ xs) = and-eq-true-iff (isEqual x x) (agree xs xs) .1 (equal-true x x .1 refl, agree-self xs)
 
-pub agree-true : (xs ys : List ℤ) → (agree xs ys ≡ true) ↔ (xs ≡ ys)
-agree-true xs ys = (agree-out xs ys, λ e. ap (agree xs) (sym e) ∙ agree-self xs)
-
-pub agree-false : (xs ys : List ℤ) → xs ≢ ys → agree xs ys ≡ false
+agree-false : (xs ys : List ℤ) → xs ≢ ys → agree xs ys ≡ false
 agree-false xs ys n = go (agree xs ys) refl
   where
     go : (t : Bool) → agree xs ys ≡ t → t ≡ false
@@ -40,7 +37,7 @@ agree-false xs ys n = go (agree xs ys) refl
     go false e = refl
 
 -- ---- no two members of a rising list are equal, so a member is found at its own place
-pub place-agree : {xs : List (List ℤ)} → Rising Lower xs → (k : ℕ) → k < length xs → place (agree (getD xs k [])) xs ≡ k
+place-agree : {xs : List (List ℤ)} → Rising Lower xs → (k : ℕ) → k < length xs → place (agree (getD xs k [])) xs ≡ k
 place-agree {xs} r k h = place-at (agree (getD xs k [])) xs k [] h (agree-self (getD xs k [])) other
   where
     apart : (x y : List ℤ) → Lower x y → y ≢ x

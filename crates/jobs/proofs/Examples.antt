@@ -9,7 +9,7 @@ use Rattle.ints.proofs.{ℤ, pos}
 use Rattle.lists.specs.Members.{_∈_, here, there}
 use Rattle.lists.specs.Table.{table}
 use Rattle.lists.proofs.Table.{table-at}
-use Rattle.jobs.specs.Bytes.{unsigned}
+use Rattle.bytes.specs.LittleEndian.{unsigned}
 use Rattle.jobs.specs.Job.{jobOf}
 use Rattle.jobs.specs.Solution.{solutions}
 use Rattle.jobs.specs.Component.{IsLead, Numbered, lowest, leads, component}

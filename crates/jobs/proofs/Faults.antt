@@ -16,7 +16,7 @@ use Rattle.jobs.specs.Job.{variableCount, equationCount}
 use Rattle.jobs.specs.Table.{Broken, NoArea, headerChecks, equationChecks, rowChecks, checks, IsFirst}
 use Rattle.jobs.specs.Decide.{firstOf}
 use Rattle.jobs.specs.Faults.{broken?, firstBroken, noArea?, accepted, refused, answered, checked, ChecksExactly}
-use Rattle.jobs.proofs.Firsts.{first-none, first-here, first-later, first-past, first-stays, first-without, first-iff, first-same, none-holds, holds-none}
+use Rattle.jobs.proofs.FirstOf.{first-none, first-here, first-later, first-past, first-stays, first-without, first-iff, first-same, none-holds, holds-none}
 
 -- what it is for the area to be too short may be said in another way
 broken-by : {P Q : Type 0} → (P → Q) → (s : List ℕ) (r : Reason) → Broken P s r → Broken Q s r

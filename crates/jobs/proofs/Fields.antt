@@ -14,7 +14,7 @@ use Rattle.lists.specs.Table.{upTo}
 use Rattle.lists.proofs.Maps.{flatMap-same}
 use Rattle.lists.proofs.Places.{length-both, drop-past, length-flatMap}
 use Rattle.lists.proofs.Table.{in-upTo, table-at, length-upTo}
-use Rattle.jobs.specs.Bytes.{unsigned, i64, bytesOf, signedBytes}
+use Rattle.bytes.specs.LittleEndian.{unsigned, i64, bytesOf, signedBytes}
 use Rattle.jobs.specs.Job.{Job, jobOf}
 use Rattle.jobs.specs.Layout.{sheetLength}
 use Rattle.jobs.specs.Component.{componentCount, component}
@@ -22,7 +22,8 @@ use Rattle.jobs.specs.Findings.{Findings, findings}
 use Rattle.jobs.specs.Verdict.{Verdict, planned, noFit, refused, verdict}
 use Rattle.jobs.specs.Sheet.{sheetHeader, sheetVariable, sheetGroup, sheetVariables, sheetGroups, laidOut, areaAfter, sheet}
 use Rattle.jobs.specs.Demands.{worthOn, numberOn, baseOn, stepOn, LaidOut}
-use Rattle.jobs.proofs.Writing.{Holds, within-holds, unsigned-first, unsigned-past, unsigned-part, unsigned-bytesOf, signed-field}
+use Rattle.bytes.proofs.LittleEndian.{unsigned-first, unsigned-past, unsigned-part, unsigned-bytesOf}
+use Rattle.bytes.proofs.TwosComplement.{Holds, within-holds, signed-field}
 use Rattle.jobs.proofs.Components.{length-leads, component-below}
 use Rattle.jobs.proofs.Numbering.{numbered-by}
 

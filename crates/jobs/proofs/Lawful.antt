@@ -16,7 +16,7 @@ use Rattle.jobs.specs.Lawful.{LawfulEquation, LawfulJob, Lawful}
 use Rattle.jobs.specs.Decide.{firstOf}
 use Rattle.jobs.specs.Faults.{header?, inRange?, coefficients?, broken?, firstBroken}
 use Rattle.jobs.proofs.JobOf.{variables-of, equations-of}
-use Rattle.jobs.proofs.Firsts.{none-holds, holds-none}
+use Rattle.jobs.proofs.FirstOf.{none-holds, holds-none}
 use Rattle.jobs.proofs.Faults.{sound-iff}
 
 -- what can be decided and is not false holds
@@ -64,7 +64,7 @@ module _ {short : Type 0} (d : Dec short) (s : List ℕ) where
           named m = sound (EquationVariables k) (h, m)
 
 -- ---- of such a job
-pub lawful-member : {j : Job} → LawfulJob j → (e : Equation) → e ∈ j .equations → LawfulEquation (length (j .variables)) e
+lawful-member : {j : Job} → LawfulJob j → (e : Equation) → e ∈ j .equations → LawfulEquation (length (j .variables)) e
 lawful-member {j} f = each-iff (LawfulEquation (length (j .variables))) (j .equations) noEquation .0 (f .each-equation)
 
 -- every equation names variables of the job

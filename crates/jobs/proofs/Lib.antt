@@ -1,16 +1,14 @@
 -- The laws of jobs, in the order in which they rest on each other. Other crates go by Solutions, Components and Assembly, and
 -- find in Faults when a job is turned away and in Lawful what is known of one that is not.
 
--- numbers in bytes, as the code reads them
-pub mod Reading
 -- the rows of the job that bytes say
 pub mod JobOf
 -- what a branch on a test says
 pub mod Branches
 -- the first member of a list of which a statement holds
-pub mod Firsts
+pub mod FirstOf
 -- a walk through the rows of a job
-pub mod Walks
+pub mod RowChecks
 -- a reason is reported exactly when its rule is broken and none before it
 pub mod Faults
 -- what is known of a job that no check turns away
@@ -27,16 +25,14 @@ pub mod Numbering
 pub mod Assembly
 -- where the best stands among the solutions
 pub mod Chosen
--- numbers written in bytes read back
-pub mod Writing
 -- where the fields of a sheet stand
 pub mod Fields
 -- the definitions keep the demands, as far as that needs no families
-pub mod Promises
+pub mod DemandsHold
 -- verdict and sheet, case by case
 pub mod Outcomes
 -- of a list longer than any lawful job the first part is answered as the whole
-pub mod Longer
+pub mod LongInput
 -- the sham planners of document 01, each refused by the demand that is named beside it
 pub mod Shams
 -- job M by the sentences on groups

@@ -15,10 +15,10 @@ use Rattle.jobs.specs.Table.{rowChecks, checks}
 use Rattle.jobs.specs.Faults.{broken?, noArea?, accepted, refused as turned, answered, checked}
 use Rattle.jobs.specs.Verdict.{planned, noFit, refused, firstWithout, outcome, short?, verdict}
 use Rattle.jobs.specs.Sheet.{laidOut, sheet}
-use Rattle.jobs.proofs.Firsts.{first-here}
+use Rattle.jobs.proofs.FirstOf.{first-here}
 use Rattle.jobs.proofs.Faults.{fault-checked, fault-short, fault-none, accepted-none, refused-some}
 use Rattle.jobs.proofs.Fields.{if-planned, if-noFit, if-refused}
-use Rattle.jobs.proofs.Promises.{fault, verdict-is}
+use Rattle.jobs.proofs.DemandsHold.{fault, verdict-is}
 
 module _ (s area : List ℕ) where
   abbrev j : Job

@@ -14,7 +14,7 @@ use Rattle.lists.specs.Table.{table}
 use Rattle.lists.proofs.Rising.{rising-distinct, same-length}
 use Rattle.lists.proofs.Table.{in-table, rising-table, length-table, table-at}
 use Rattle.lists.proofs.Lexicographic.{lower-asym}
-use Rattle.jobs.specs.Bytes.{unsigned}
+use Rattle.bytes.specs.LittleEndian.{unsigned}
 use Rattle.jobs.specs.Job.{Job, jobOf, variable}
 use Rattle.jobs.specs.Solution.{number, IsSolution, best}
 use Rattle.jobs.specs.Layout.{sheetLength}
@@ -24,13 +24,13 @@ use Rattle.jobs.specs.Faults.{accepted, refused as turned, checked}
 use Rattle.jobs.specs.Verdict.{planned, noFit, refused, firstWithout, short?}
 use Rattle.jobs.specs.Sheet.{answerMark}
 use Rattle.jobs.specs.Demands.{numberOn, groupOn, fitsOn, numbersOn, memberOn, TurnsAway, FamilyOn, NotTurnedAway, GivesFits, CannotBeBettered}
-use Rattle.jobs.specs.Vectors.{header, count, difference}
+use Rattle.jobs.specs.JobBytes.{plus, header, count, plain, difference}
 use Rattle.jobs.proofs.Faults.{fault-checked, fault-none, accepted-none, refused-some}
 use Rattle.jobs.proofs.Solutions.{rising-solutions, in-solutions, best-only}
 use Rattle.jobs.proofs.Components.{joined-iff, in-leads}
 use Rattle.jobs.proofs.Numbering.{lead-iff}
 use Rattle.jobs.proofs.Assembly.{solves-iff}
-use Rattle.jobs.proofs.Promises.{fault, reported}
+use Rattle.jobs.proofs.DemandsHold.{fault, reported}
 
 -- ---- jobs that refuse them
 abbrev pub noCounts : List ℕ
@@ -38,15 +38,15 @@ noCounts = header 0 0 24 24
 
 -- 0..1, weight 1
 abbrev pub oneCount : List ℕ
-oneCount = header 1 0 36 36 ++ count 0 1 1
+oneCount = header 1 0 36 36 ++ count (plus 0) (plus 1) (plus 1)
 
 -- two such counts, untied
 abbrev pub twoCounts : List ℕ
-twoCounts = header 2 0 48 48 ++ count 0 1 1 ++ count 0 1 1
+twoCounts = header 2 0 48 48 ++ count (plus 0) (plus 1) (plus 1) ++ count (plus 0) (plus 1) (plus 1)
 
 -- 0..1, and a second group of 0..3 and 0..3 with c1 − c2 = 1
 abbrev pub twoGroups : List ℕ
-twoGroups = header 3 1 60 80 ++ count 0 1 0 ++ count 0 3 0 ++ count 0 3 0 ++ difference 1 2 1
+twoGroups = header 3 1 60 80 ++ plain 1 ++ plain 3 ++ plain 3 ++ difference 1 2 1
 
 abbrev smallJobs : List (List ℕ)
 smallJobs = noCounts ∷ oneCount ∷ twoCounts ∷ twoGroups ∷ []

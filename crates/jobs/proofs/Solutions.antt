@@ -127,9 +127,6 @@ none-iff j = Iff·trans (no-members (solutions j)) (λ f x s. f x (in-solutions 
 pub better-asym : (j : Job) (x y : List ℤ) → Better j x y → Better j y x → ⊥
 better-asym j x y = beats-asym (objective j) lower-asym
 
-pub better-irreflexive : (j : Job) (x : List ℤ) → ¬ Better j x x
-better-irreflexive j x h = better-asym j x x h h
-
 pub better-trans : (j : Job) (x y z : List ℤ) → Better j x y → Better j y z → Better j x z
 better-trans j x y z = beats-trans (objective j) lower-trans
 

@@ -10,7 +10,7 @@ use lib.ListN.{length, take, drop}
 use lib.IntN.{ℤ, pos, _+ℤ_, _*ℤ_}
 use lib.Signed.{_≤ℤ_, _<ℤ_}
 use Rattle.lists.specs.Table.{table}
-use Rattle.jobs.specs.Bytes.{u16, u32, i32, i64}
+use Rattle.bytes.specs.LittleEndian.{u16, u32, i32, i64}
 use Rattle.jobs.specs.Job.{Job, jobOf, variable, equation}
 use Rattle.jobs.specs.Solution.{number, value, IsSolution, objective, Optimal}
 use Rattle.jobs.specs.Layout.{groupRowsAt}

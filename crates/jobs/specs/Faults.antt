@@ -13,7 +13,7 @@ use Rattle.jobs.specs.declared.Checked.the-variants.{Accepted, Refused}
 use Rattle.runs.specs.Run.{bound}
 use Rattle.runs.specs.Workings.{carryLimits}
 use Rattle.runs.proofs.Refusals.{in-limits-iff}
-use Rattle.jobs.specs.Bytes.{u32}
+use Rattle.bytes.specs.LittleEndian.{u32}
 use Rattle.jobs.specs.Decide.{tested, below?, atMost?, equal?, within?, by, both, either, not?, list?, firstOf}
 use Rattle.jobs.specs.Job.{Variable, Equation, jobOf, form, variableCount, equationCount, equationRowAt, variable, equation}
 use Rattle.jobs.specs.Table.{mark, Header, InRange, Coefficients, Misnamed, Broken, NoArea, checks, Reported}

@@ -7,7 +7,7 @@ use lib.ListN.{length, getD}
 use lib.IntN.{pos}
 use Rattle.lists.specs.Table.{table}
 use Rattle.runs.specs.declared.Equation.{Equation as Form}
-use Rattle.jobs.specs.Bytes.{u16, i32, i64}
+use Rattle.bytes.specs.LittleEndian.{u16, i32, i64}
 -- the program's structs: whole numbers in ℤ, numbers of variables in ℕ
 pub use Rattle.jobs.specs.declared.Variable.{Variable}
 pub use Rattle.jobs.specs.declared.Equation.{Equation}

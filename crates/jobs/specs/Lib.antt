@@ -1,8 +1,6 @@
 -- What a job is, when it is turned away, what a plan of it is, and what is demanded of one. Read in this order. To be believed is
--- all of it but the decisions in Decide and Faults, Lawful, Bounds, Method, and Vectors, which is theorems.
+-- all of it but the decisions in Decide and Faults, Lawful, Bounds, JobBytes, and Vectors, which is theorems.
 
--- numbers in bytes
-pub mod Bytes
 -- the bytes of a job as variables and equations
 pub mod Job
 -- fit-outs, their worth, and the best of them
@@ -31,7 +29,7 @@ pub mod Demands
 pub mod Lawful
 -- a job with other bounds, likewise
 pub mod Bounds
--- what inner functions promise each other
-pub mod Method
+-- the bytes of small jobs
+pub mod JobBytes
 -- small jobs through all of them
 pub mod Vectors

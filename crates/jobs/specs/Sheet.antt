@@ -5,7 +5,7 @@ use lib.ListN.{length, drop}
 use lib.IntN.{ℤ}
 use Rattle.lists.specs.Table.{table, upTo}
 use Rattle.runs.specs.declared.Run.{Run}
-use Rattle.jobs.specs.Bytes.{bytesOf, signedBytes}
+use Rattle.bytes.specs.LittleEndian.{bytesOf, signedBytes}
 use Rattle.jobs.specs.Job.{jobOf}
 use Rattle.jobs.specs.Solution.{best}
 use Rattle.jobs.specs.Component.{leads, component}

@@ -12,7 +12,7 @@ use Rattle.lists.specs.Members.{_∈_}
 use Rattle.lists.specs.Table.{table, upTo}
 use Rattle.runs.specs.Run.{bound}
 use Rattle.runs.specs.Workings.{CarryLimits}
-use Rattle.jobs.specs.Bytes.{unsigned, u32}
+use Rattle.bytes.specs.LittleEndian.{unsigned, u32}
 use Rattle.jobs.specs.Layout.{groupRowsAt}
 use Rattle.jobs.specs.Component.{Numbered}
 use Rattle.jobs.specs.Job.{Variable, Equation, Job, jobOf, form, variableCount, equationCount, equationRowAt, variable, equation}

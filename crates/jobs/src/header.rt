@@ -10,7 +10,6 @@ ghost use Rattle.jobs.specs.Table.{mark, Header, headerChecks};
 ghost use Rattle.jobs.specs.Decide.{firstOf};
 ghost use Rattle.jobs.specs.Faults.{broken?, noArea?, faultOf};
 use crate::Checked;
-use crate::bytes;
 use reasons::Reason;
 
 /// How many variables the header names, document 01's n.

@@ -12,8 +12,6 @@ ghost use Rattle.jobs.specs.Table.{equationChecks, rowChecks};
 ghost use Rattle.jobs.specs.Faults.{broken?, noArea?, faultOf, answerOf, checked, ChecksExactly};
 use reasons::Reason;
 
-// little-endian numbers
-pub mod bytes;
 // the rows of variables and of equations
 mod rows;
 // the header

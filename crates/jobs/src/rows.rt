@@ -8,7 +8,6 @@ ghost use Rattle.jobs.specs.Job.{jobOf, RowsInside, variableCount, equat
 ghost use Rattle.jobs.specs.Table.{InRange, Misnamed, Coefficients};
 use crate::Equation;
 use crate::Variable;
-use crate::bytes;
 
 impl Variable {
     /// The row of variable i.

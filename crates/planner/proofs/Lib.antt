@@ -1,7 +1,5 @@
 -- The laws that the proofs of the functions go by.
 
--- bytes written over others
-pub mod Overwriting
 -- the rows of a sheet, one behind the other
 pub mod SheetRows
 -- the number that is chosen for a variable

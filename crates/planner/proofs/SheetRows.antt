@@ -13,8 +13,8 @@ use Rattle.runs.specs.declared.Run.{Run}
 use Rattle.jobs.specs.Sheet.{sheetVariable, sheetGroup, sheetVariables, sheetGroups}
 use Rattle.families.specs.Plan.{leadsBy}
 use Rattle.solver.proofs.Leads.{leads-none, leads-yes, leads-no}
-use Rattle.planner.specs.Area.{over}
-use Rattle.planner.proofs.Overwriting.{over-over, length-over}
+use Rattle.bytes.specs.Over.{over}
+use Rattle.bytes.proofs.Over.{over-over, length-over}
 
 one : {A : Type 0} (f : A → List ℕ) (x : A) → flatMap f (x ∷ []) ≡ f x
 unfolding flatMap

@@ -28,9 +28,9 @@ use Rattle.solver.specs.Arrays.{groupIn, runIn}
 use Rattle.solver.specs.Families.{Families}
 use Rattle.solver.specs.Bounds.{WeightsOf}
 use Rattle.solver.specs.Groups.{Lowest}
-use Rattle.planner.specs.Area.{over}
+use Rattle.bytes.specs.Over.{over}
 use Rattle.planner.specs.Choice.{Members, NoneEmpty}
-use Rattle.planner.proofs.Overwriting.{over-all}
+use Rattle.bytes.proofs.Over.{over-all}
 
 module _ (j : Job) (lawful : LawfulJob j) (x : State) (f : Families j x) where
   abbrev n : ℕ

@@ -2,7 +2,5 @@
 
 -- what the planner's answer says
 pub mod Outcome
--- bytes that are written over
-pub mod Area
 -- the choice, and what is found
 pub mod Choice

@@ -14,7 +14,7 @@ ghost use Rattle.jobs.specs.Demands.{TurnsAway, GivesFits, CannotBeBettered};
 ghost use Rattle.families.specs.Plan.{leadsBy, findingsBy};
 ghost use Rattle.solver.specs.Arrays.{groupIn, runIn};
 ghost use Rattle.solver.specs.Groups.{Lowest};
-ghost use Rattle.planner.specs.Area.{over};
+ghost use Rattle.bytes.specs.Over.{over};
 ghost use Rattle.planner.specs.Choice.{Members, NoneEmpty, AllWithin};
 ghost use Rattle.planner.specs.Outcome.{verdictOf};
 use choose::Found;
@@ -28,8 +28,6 @@ use solver::variables;
 
 // the choice in each group
 mod choose;
-// numbers written into bytes
-mod bytes;
 // the sheet
 mod sheet;
 

@@ -6,7 +6,7 @@ use lib.Dec.{ltb, eqb}
 use lib.IntN.{ℤ, pos, _+ℤ_, _-ℤ_, _*ℤ_}
 use lib.ListN.{set}
 use Rattle.ints.specs.Equal.{isEqual}
-use Rattle.build.specs.Parts.{equationRow}
+use Rattle.build.specs.Parts.{equationRowAt}
 use Rattle.small.specs.declared.plain.Found.{Found}
 use Rattle.small.specs.declared.plain.Point.{Point}
 use Rattle.small.specs.OneByte.{signedOf}
@@ -14,7 +14,7 @@ use Rattle.small.specs.Reading.{itemAt, byteAt, variablesTaken, lowAt, l
 
 -- where row k of the equations begins
 abbrev pub rowAt : List ℕ → ℕ → ℕ
-rowAt s k = equationRow (byteAt s 4) k
+rowAt s k = equationRowAt (byteAt s 4) k
 
 -- ---- groups
 -- variable i takes over the label x, if that is lower

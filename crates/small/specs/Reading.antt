@@ -4,7 +4,7 @@ use mathlib.Core.List.{List}
 use Prim.Native.Nat.{ℕ, _+_, min}
 use lib.Dec.{ltb, eqb}
 use lib.ListN.{getD}
-use Rattle.build.specs.Parts.{variableRow}
+use Rattle.build.specs.Parts.{variableRowAt}
 use Rattle.small.specs.OneByte.{signedOf, howMany}
 
 -- what stands at place i of n, and d past the end
@@ -21,13 +21,13 @@ variablesTaken s = min (byteAt s 4) 5
 
 -- the low, the high and the weight of variable i: one byte says all of each
 abbrev pub lowAt : List ℕ → ℕ → ℕ
-lowAt s i = byteAt s (variableRow i)
+lowAt s i = byteAt s (variableRowAt i)
 
 abbrev pub highAt : List ℕ → ℕ → ℕ
-highAt s i = byteAt s (variableRow i + 4)
+highAt s i = byteAt s (variableRowAt i + 4)
 
 abbrev pub weightAt : List ℕ → ℕ → ℕ
-weightAt s i = byteAt s (variableRow i + 8)
+weightAt s i = byteAt s (variableRowAt i + 8)
 
 -- the label of variable i
 abbrev pub labelAt : List ℕ → ℕ → ℕ

@@ -9,7 +9,7 @@ use Rattle.reasons.specs.declared.Reason.the-variants.{ShortArea}
 use Rattle.jobs.specs.Decide.{firstOf}
 use Rattle.jobs.specs.Table.{headerChecks, rowChecks, checks}
 use Rattle.jobs.specs.Faults.{broken?, noArea?, firstBroken, faultOf, Answer, answered, checked, ChecksExactly}
-use Rattle.jobs.proofs.Firsts.{first-past, first-stays, first-without}
+use Rattle.jobs.proofs.FirstOf.{first-past, first-stays, first-without}
 use Rattle.jobs.proofs.Faults.{checks-exactly}
 use Rattle.jobs.proofs.Lawful.{rows-inside}
 use borrow.Author.Needs.{needs}

@@ -12,7 +12,7 @@ use Rattle.jobs.specs.Table.{Misnamed, Coefficients, equationChecks}
 use Rattle.jobs.specs.Decide.{firstOf}
 use Rattle.jobs.specs.Faults.{broken?, noArea?}
 use Rattle.jobs.proofs.Branches.{passed, failed}
-use Rattle.jobs.proofs.Walks.{ofEquations, equations-start, equations-end, names-here, range-here, equation-past}
+use Rattle.jobs.proofs.RowChecks.{ofEquations, equations-start, equations-end, names-here, range-here, equation-past}
 use borrow.Author.Needs.{needs}
 use Rattle.jobs.proofs.check_equations.Statement.{statement}
 use Rattle.jobs.proofs.check_equations.Tie as tie

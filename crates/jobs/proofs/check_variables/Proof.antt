@@ -9,7 +9,7 @@ use Rattle.jobs.specs.Table.{InRange}
 use Rattle.jobs.specs.Decide.{firstOf}
 use Rattle.jobs.specs.Faults.{broken?, noArea?}
 use Rattle.jobs.proofs.Branches.{passed, failed}
-use Rattle.jobs.proofs.Walks.{ofVariables, variables-start, variables-end, variable-here, variable-past}
+use Rattle.jobs.proofs.RowChecks.{ofVariables, variables-start, variables-end, variable-here, variable-past}
 use borrow.Author.Needs.{needs}
 use Rattle.jobs.proofs.check_variables.Statement.{statement}
 use Rattle.jobs.proofs.check_variables.Tie as tie

@@ -15,7 +15,7 @@ use Rattle.jobs.proofs.Fields.{same-layout}
 use Rattle.solver.specs.Groups.{Labelled, Lowest}
 use Rattle.solver.specs.Arrays.{groupIn}
 use Rattle.solver.proofs.Sizes.{held-within}
-use Rattle.planner.specs.Area.{over}
+use Rattle.bytes.specs.Over.{over}
 use Rattle.planner.specs.Choice.{FamilyRuns, NoneEmpty, AllWithin, numberIn, worthIn, findingsIn}
 use Rattle.planner.proofs.Choosing.{number-within}
 use Rattle.planner.proofs.WeightedSums.{total-within}

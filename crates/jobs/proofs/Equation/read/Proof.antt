@@ -4,7 +4,7 @@ use mathlib.Core.Path.{_≡_, sym, _∙_, ap}
 use mathlib.Core.List.{List}
 use Prim.Native.Nat.{ℕ, _<_}
 use Rattle.jobs.specs.Job.{jobOf, variableCount, equationCount, equationRowAt, equationFrom, equation}
-use Rattle.jobs.proofs.Reading.{given}
+use Rattle.ints.proofs.Signed.{held-is}
 use Rattle.jobs.proofs.JobOf.{equation-of}
 use borrow.Author.Needs.{needs}
 use Rattle.jobs.proofs.Equation.read.Statement.{statement}
@@ -62,9 +62,9 @@ returns c =
     (λ i. record {
       left = f .before .u16-at .ensures .0 i;
       right = f .u16-at2 .ensures .0 i;
-      a = given (e .i32-at .ok) (e .i32-at .ensures) i;
-      b = given (d .i32-at2 .ok) (d .i32-at2 .ensures) i;
-      c = given (c .i64-at .ok) (c .i64-at .ensures) i;
+      a = held-is (e .i32-at .ok) (e .i32-at .ensures) i;
+      b = held-is (d .i32-at2 .ok) (d .i32-at2 .ensures) i;
+      c = held-is (c .i64-at .ok) (c .i64-at .ensures) i;
     })
     ∙ from-row (now (s .args .job)) (s .pre .1 .0) (s .args .k) (s .pre .1 .1)
 

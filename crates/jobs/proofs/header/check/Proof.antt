@@ -13,7 +13,7 @@ use Rattle.jobs.specs.Decide.{firstOf}
 use Rattle.jobs.specs.Table.{headerChecks}
 use Rattle.jobs.specs.Faults.{broken?, noArea?}
 use Rattle.jobs.proofs.Branches.{passed, failed}
-use Rattle.jobs.proofs.Firsts.{first-none, first-here, first-later}
+use Rattle.jobs.proofs.FirstOf.{first-none, first-here, first-later}
 use borrow.Author.Needs.{needs}
 use Rattle.jobs.proofs.header.check.Statement.{statement}
 use Rattle.jobs.proofs.header.check.Tie as tie

@@ -5,11 +5,13 @@ use borrow.Author.Needs.{needs}
 use mir.Facts.{toZ-ofZ}
 use lib.ListN.{length}
 use Rattle.ints.proofs.{ℤ, List, arith}
-use Rattle.jobs.specs.Bytes.{bytesOf, signedBytes}
+use Rattle.bytes.specs.LittleEndian.{bytesOf, signedBytes}
 use Rattle.families.specs.Family.{choice}
 use Rattle.jobs.specs.Sheet.{sheetGroup}
-use Rattle.planner.specs.Area.{over}
-use Rattle.planner.proofs.Overwriting.{over-same, Written, behind-it, length-bytesOf, length-signedBytes}
+use Rattle.bytes.specs.Over.{over}
+use Rattle.bytes.proofs.LittleEndian.{length-bytesOf}
+use Rattle.bytes.proofs.TwosComplement.{length-signedBytes}
+use Rattle.bytes.proofs.Over.{over-same, Written, behind-it}
 use Rattle.planner.proofs.sheet.group.Statement.{statement}
 use Rattle.planner.proofs.sheet.group.Tie as tie
 

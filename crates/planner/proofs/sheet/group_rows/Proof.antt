@@ -13,11 +13,11 @@ use Rattle.jobs.specs.Solution.{number}
 use Rattle.jobs.specs.Sheet.{sheetGroup, sheetGroups}
 use Rattle.jobs.proofs.Fields.{length-groups}
 use Rattle.families.specs.Plan.{leadsBy}
-use Rattle.planner.specs.Area.{over}
+use Rattle.bytes.specs.Over.{over}
 use Rattle.solver.specs.Arrays.{groupIn, runIn}
 use Rattle.planner.specs.Choice.{chosenIn}
 use Rattle.solver.proofs.Leads.{leads-none, leads-yes, leads-no, leads-length, leads-mono}
-use Rattle.planner.proofs.Overwriting.{over-none, over-same}
+use Rattle.bytes.proofs.Over.{over-none, over-same}
 use Rattle.solver.proofs.Sizes.{held-element}
 use Rattle.planner.proofs.SheetRows.{laid, laid-length, groups-none, groups-yes, groups-no}
 use Rattle.planner.proofs.sheet.group_rows.Statement.{statement}

@@ -8,11 +8,13 @@ use Rattle.ints.specs.Within.{Within}
 use Rattle.ints.proofs.{ℤ, List, arith}
 use Rattle.ints.proofs.Signed.{held}
 use Rattle.runs.specs.declared.Run.{Run}
-use Rattle.jobs.specs.Bytes.{bytesOf, signedBytes}
+use Rattle.bytes.specs.LittleEndian.{bytesOf, signedBytes}
 use Rattle.jobs.specs.Sheet.{sheetVariable}
 use Rattle.families.proofs.FamilySizes.{first-within, step-within}
-use Rattle.planner.specs.Area.{over}
-use Rattle.planner.proofs.Overwriting.{over-same, Written, behind-it, length-bytesOf, length-signedBytes}
+use Rattle.bytes.specs.Over.{over}
+use Rattle.bytes.proofs.LittleEndian.{length-bytesOf}
+use Rattle.bytes.proofs.TwosComplement.{length-signedBytes}
+use Rattle.bytes.proofs.Over.{over-same, Written, behind-it}
 use Rattle.solver.proofs.Sizes.{held-first, held-step, crossable}
 use Rattle.planner.proofs.sheet.variable.Statement.{statement}
 use Rattle.planner.proofs.sheet.variable.Tie as tie

@@ -13,8 +13,8 @@ use Rattle.jobs.specs.Sheet.{sheetVariable, sheetVariables}
 use Rattle.jobs.proofs.Fields.{length-variables}
 use Rattle.solver.specs.Arrays.{runIn}
 use Rattle.solver.proofs.Sizes.{held-within}
-use Rattle.planner.specs.Area.{over}
-use Rattle.planner.proofs.Overwriting.{over-none, over-same}
+use Rattle.bytes.specs.Over.{over}
+use Rattle.bytes.proofs.Over.{over-none, over-same}
 use Rattle.planner.proofs.SheetRows.{laid, laid-length, variables-none, variables-next}
 use Rattle.planner.proofs.sheet.variables.Statement.{statement}
 use Rattle.planner.proofs.sheet.variables.Tie as tie

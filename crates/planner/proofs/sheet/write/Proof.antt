@@ -16,9 +16,9 @@ use Rattle.jobs.proofs.Fields.{length-header, length-variables, length-groups}
 use Rattle.families.specs.Plan.{leadsBy, componentBy}
 use Rattle.solver.specs.Arrays.{groupIn, runIn}
 use Rattle.solver.proofs.Leads.{leads-length}
-use Rattle.planner.specs.Area.{over}
+use Rattle.bytes.specs.Over.{over}
 use Rattle.planner.specs.Choice.{chosenIn, findingsIn}
-use Rattle.planner.proofs.Overwriting.{over-same, over-lent, Written, behind-it, length-over}
+use Rattle.bytes.proofs.Over.{over-same, over-lent, Written, behind-it, length-over}
 use Rattle.planner.proofs.SheetRows.{variables-same}
 use Rattle.planner.proofs.sheet.write.Statement.{statement}
 use Rattle.planner.proofs.sheet.write.Tie as tie
