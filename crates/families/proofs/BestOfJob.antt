@@ -26,7 +26,7 @@ use Rattle.jobs.proofs.Solutions.{best-is, best-only}
 use Rattle.jobs.proofs.Components.{lowest-le, lowest-self, in-leads}
 use Rattle.jobs.proofs.Assembly.{outside-zero, component-length, variable-inside, variable-outside, partOf, assembled, part-inside, part-outside, assembled-at, part-solution, assembled-solution, some-iff, fits-iff, fits-some}
 use Rattle.families.specs.Family.{member, IsFamily, choice}
-use Rattle.families.proofs.BestOfGroup.{choice-optimal}
+use Rattle.families.proofs.BestOfComponent.{choice-optimal}
 
 -- an order of lists in which a list that comes before another does so in the part of some group
 record ByParts (j : Job) (R : List ℤ → List ℤ → Type 0) : Type 0 where

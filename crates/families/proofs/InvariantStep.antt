@@ -15,10 +15,10 @@ use Rattle.jobs.specs.Job.{Job, equation}
 use Rattle.jobs.specs.Solution.{value}
 use Rattle.jobs.specs.Component.{lowestBy}
 use Rattle.jobs.proofs.Components.{lowestBy-le, lowestBy-self}
-use Rattle.families.specs.Model.{State, groupAt, runAt}
+use Rattle.families.specs.Model.{State, labelAt, runAt}
 use Rattle.families.specs.Invariant.{Keeps, IsMember, OnFamily, Invariant}
 use Rattle.families.proofs.Subfamily.{index-only}
-use Rattle.families.proofs.GroupLabels.{leftGroup, rightGroup, newGroup, InEither, new-is, to-new, from-new, from-other, to-other, apart}
+use Rattle.families.proofs.Labels.{leftLabel, rightLabel, newLabel, InEither, new-is, to-new, from-new, from-other, to-other, apart}
 
 -- a member is on the family: at the group's lowest variable there is one index only
 pub on-family : {j : Job} {m : ℕ} {run : ℕ → Run} {g k : ℕ} {x : List ℤ} → g < length (j .variables) → lowestBy j m g ≡ g → FamilyRun (run g) →
@@ -27,15 +27,15 @@ on-family {g} {k} b s f h = record { k = k; is = h; only = λ k′ h′. index-o
 
 -- x is on the families of both groups of equation m, and keeps it
 abbrev pub OnBoth : (j : Job) → ℕ → (ℕ → Run) → List ℤ → Type 0
-OnBoth j m run x = OnFamily j m run (leftGroup j m) x × OnFamily j m run (rightGroup j m) x × (value (equation j m) x ≡ equation j m .c)
+OnBoth j m run x = OnFamily j m run (leftLabel j m) x × OnFamily j m run (rightLabel j m) x × (value (equation j m) x ≡ equation j m .c)
 
 -- the runs before and after equation m
 pub record Step (j : Job) (m : ℕ) (run run′ : ℕ → Run) : Type 0 where
-  pub other : (i : ℕ) → i < length (j .variables) → lowestBy j m i ≢ leftGroup j m → lowestBy j m i ≢ rightGroup j m → run′ i ≡ run i
-  pub many : (i : ℕ) → i < length (j .variables) → lowestBy j (suc m) i ≡ newGroup j m → run′ i .many ≡ run′ (newGroup j m) .many
-  pub form : (i : ℕ) → i < length (j .variables) → lowestBy j (suc m) i ≡ newGroup j m → FamilyRun (run′ i)
-  pub rises : 2 ≤ run′ (newGroup j m) .many → pos 0 <ℤ run′ (newGroup j m) .step
-  pub family : (x : List ℤ) → OnFamily j (suc m) run′ (newGroup j m) x ↔ OnBoth j m run x
+  pub other : (i : ℕ) → i < length (j .variables) → lowestBy j m i ≢ leftLabel j m → lowestBy j m i ≢ rightLabel j m → run′ i ≡ run i
+  pub many : (i : ℕ) → i < length (j .variables) → lowestBy j (suc m) i ≡ newLabel j m → run′ i .many ≡ run′ (newLabel j m) .many
+  pub form : (i : ℕ) → i < length (j .variables) → lowestBy j (suc m) i ≡ newLabel j m → FamilyRun (run′ i)
+  pub rises : 2 ≤ run′ (newLabel j m) .many → pos 0 <ℤ run′ (newLabel j m) .step
+  pub family : (x : List ℤ) → OnFamily j (suc m) run′ (newLabel j m) x ↔ OnBoth j m run x
 
 -- ---- the groups of an equation that names variables of the job
 pub record Named (j : Job) (m : ℕ) : Type 0 where
@@ -43,42 +43,42 @@ pub record Named (j : Job) (m : ℕ) : Type 0 where
   pub right : equation j m .right < length (j .variables)
 
 module _ {j : Job} {m : ℕ} (named : Named j m) where
-  pub left-below : leftGroup j m < length (j .variables)
+  pub left-below : leftLabel j m < length (j .variables)
   left-below = omega (arith, lowestBy-le j m (equation j m .left), named .left)
 
-  pub right-below : rightGroup j m < length (j .variables)
+  pub right-below : rightLabel j m < length (j .variables)
   right-below = omega (arith, lowestBy-le j m (equation j m .right), named .right)
 
-  pub left-self : lowestBy j m (leftGroup j m) ≡ leftGroup j m
+  pub left-self : lowestBy j m (leftLabel j m) ≡ leftLabel j m
   left-self = lowestBy-self j m (equation j m .left)
 
-  pub right-self : lowestBy j m (rightGroup j m) ≡ rightGroup j m
+  pub right-self : lowestBy j m (rightLabel j m) ≡ rightLabel j m
   right-self = lowestBy-self j m (equation j m .right)
 
-  pub new-below : newGroup j m < length (j .variables)
+  pub new-below : newLabel j m < length (j .variables)
   new-below = omega (arith, left-below)
 
-  pub new-self : lowestBy j (suc m) (newGroup j m) ≡ newGroup j m
-  new-self = to-new j m (newGroup j m) (go (new-is j m))
+  pub new-self : lowestBy j (suc m) (newLabel j m) ≡ newLabel j m
+  new-self = to-new j m (newLabel j m) (go (new-is j m))
     where
-      go : (newGroup j m ≡ leftGroup j m) ⊎ (newGroup j m ≡ rightGroup j m) → InEither j m (newGroup j m)
+      go : (newLabel j m ≡ leftLabel j m) ⊎ (newLabel j m ≡ rightLabel j m) → InEither j m (newLabel j m)
       go (inl e) = inl (ap (lowestBy j m) e ∙ left-self)
       go (inr e) = inr (ap (lowestBy j m) e ∙ right-self)
 
 -- ---- what the bounds and the equations ask of the joined group: what they ask of both, and equation m
 module _ (j : Job) (m : ℕ) (x : List ℤ) where
   abbrev KeepsBoth : Type 0
-  KeepsBoth = Keeps j m (leftGroup j m) x × Keeps j m (rightGroup j m) x × (value (equation j m) x ≡ equation j m .c)
+  KeepsBoth = Keeps j m (leftLabel j m) x × Keeps j m (rightLabel j m) x × (value (equation j m) x ≡ equation j m .c)
 
   -- a group whose variables all come into the new one
-  part : (g : ℕ) → ((i : ℕ) → lowestBy j m i ≡ g → lowestBy j (suc m) i ≡ newGroup j m) → Keeps j (suc m) (newGroup j m) x → Keeps j m g x
+  part : (g : ℕ) → ((i : ℕ) → lowestBy j m i ≡ g → lowestBy j (suc m) i ≡ newLabel j m) → Keeps j (suc m) (newLabel j m) x → Keeps j m g x
   part g to q = record { low = λ i h l. q .low i h (to i l); high = λ i h l. q .high i h (to i l); holds = λ k h l. q .holds k (omega arith) (to (equation j k .left) l) }
 
-  keeps-joined : Keeps j (suc m) (newGroup j m) x ↔ KeepsBoth
+  keeps-joined : Keeps j (suc m) (newLabel j m) x ↔ KeepsBoth
   keeps-joined = (
     λ q. (
-      part (leftGroup j m) (λ i l. to-new j m i (inl l)) q,
-      part (rightGroup j m) (λ i l. to-new j m i (inr l)) q,
+      part (leftLabel j m) (λ i l. to-new j m i (inl l)) q,
+      part (rightLabel j m) (λ i l. to-new j m i (inr l)) q,
       q .holds m (omega arith) (to-new j m (equation j m .left) (inl refl)),
     ),
     λ (p, q, e). record {
@@ -88,13 +88,13 @@ module _ (j : Job) (m : ℕ) (x : List ℤ) where
     },
   )
     where
-      holds : Keeps j m (leftGroup j m) x → Keeps j m (rightGroup j m) x → value (equation j m) x ≡ equation j m .c →
+      holds : Keeps j m (leftLabel j m) x → Keeps j m (rightLabel j m) x → value (equation j m) x ≡ equation j m .c →
           (k : ℕ) → k < suc m → Dec (k ≡ m) → InEither j m (equation j k .left) → value (equation j k) x ≡ equation j k .c
       holds p q e k h (yes z) l = rw z e
       holds p q e k h (no z) l = ⊎-elim (p .holds k (omega arith)) (q .holds k (omega arith)) l
 
 -- ---- another group g
-module _ {j : Job} {m : ℕ} (g : ℕ) (n : g ≢ newGroup j m) (s : lowestBy j (suc m) g ≡ g) where
+module _ {j : Job} {m : ℕ} (g : ℕ) (n : g ≢ newLabel j m) (s : lowestBy j (suc m) g ≡ g) where
   keeps-other : (x : List ℤ) → Keeps j (suc m) g x ↔ Keeps j m g x
   keeps-other x = (
     λ q. record { low = λ i h l. q .low i h (up i l); high = λ i h l. q .high i h (up i l); holds = λ k h l. q .holds k (omega arith) (up (equation j k .left) l) },
@@ -135,25 +135,25 @@ module _ {j : Job} {m : ℕ} (g : ℕ) (n : g ≢ newGroup j m) (s : lowestBy j 
 
 -- ---- the invariant for one equation more
 pub advance : {j : Job} {m : ℕ} {s s′ : State} → Named j m → Invariant j m s → Step j m (runAt s) (runAt s′) →
-    ((i : ℕ) → i < length (j .variables) → groupAt s′ i ≡ lowestBy j (suc m) i) → Invariant j (suc m) s′
+    ((i : ℕ) → i < length (j .variables) → labelAt s′ i ≡ lowestBy j (suc m) i) → Invariant j (suc m) s′
 advance {j} {m} {s} {s′} named inv S labels = record {
-  groups = labels;
-  family = λ g b z x. family g b z x (ℕ-discrete g (newGroup j m));
-  many = λ i h. many i h (ℕ-discrete (lowestBy j (suc m) i) (newGroup j m));
-  form = λ i h. form i h (ℕ-discrete (lowestBy j (suc m) i) (newGroup j m));
-  rises = λ g b z. rises g b z (ℕ-discrete g (newGroup j m));
+  labels = labels;
+  family = λ g b z x. family g b z x (ℕ-discrete g (newLabel j m));
+  many = λ i h. many i h (ℕ-discrete (lowestBy j (suc m) i) (newLabel j m));
+  form = λ i h. form i h (ℕ-discrete (lowestBy j (suc m) i) (newLabel j m));
+  rises = λ g b z. rises g b z (ℕ-discrete g (newLabel j m));
 }
   where
-    joined : (x : List ℤ) → Keeps j (suc m) (newGroup j m) x ↔ OnFamily j (suc m) (runAt s′) (newGroup j m) x
+    joined : (x : List ℤ) → Keeps j (suc m) (newLabel j m) x ↔ OnFamily j (suc m) (runAt s′) (newLabel j m) x
     joined x = Iff·trans (keeps-joined j m x) (Iff·trans (to, from) (Iff·symm (S .family x)))
       where
         to : KeepsBoth j m x → OnBoth j m (runAt s) x
-        to (p, q, e) = (inv .family (leftGroup j m) (left-below named) (left-self named) x .0 p, inv .family (rightGroup j m) (right-below named) (right-self named) x .0 q, e)
+        to (p, q, e) = (inv .family (leftLabel j m) (left-below named) (left-self named) x .0 p, inv .family (rightLabel j m) (right-below named) (right-self named) x .0 q, e)
 
         from : OnBoth j m (runAt s) x → KeepsBoth j m x
-        from (p, q, e) = (inv .family (leftGroup j m) (left-below named) (left-self named) x .1 p, inv .family (rightGroup j m) (right-below named) (right-self named) x .1 q, e)
+        from (p, q, e) = (inv .family (leftLabel j m) (left-below named) (left-self named) x .1 p, inv .family (rightLabel j m) (right-below named) (right-self named) x .1 q, e)
 
-    family : (g : ℕ) → g < length (j .variables) → lowestBy j (suc m) g ≡ g → (x : List ℤ) → Dec (g ≡ newGroup j m) → Keeps j (suc m) g x ↔ OnFamily j (suc m) (runAt s′) g x
+    family : (g : ℕ) → g < length (j .variables) → lowestBy j (suc m) g ≡ g → (x : List ℤ) → Dec (g ≡ newLabel j m) → Keeps j (suc m) g x ↔ OnFamily j (suc m) (runAt s′) g x
     family g b z x (yes e) = rw e (joined x)
     family g b z x (no n) =
         Iff·trans (keeps-other g n z x) (Iff·trans (inv .family g b (from-other j m g n g z) x) (on-other g n z S b (inv .form g b) x))
@@ -162,23 +162,23 @@ advance {j} {m} {s} {s′} named inv S labels = record {
     below i h = omega (arith, lowestBy-le j (suc m) i)
 
     -- a variable of another group
-    old : (i : ℕ) → lowestBy j (suc m) i ≢ newGroup j m → lowestBy j m i ≡ lowestBy j (suc m) i
+    old : (i : ℕ) → lowestBy j (suc m) i ≢ newLabel j m → lowestBy j m i ≡ lowestBy j (suc m) i
     old i n = from-other j m (lowestBy j (suc m) i) n i refl
 
-    same : (i : ℕ) → i < length (j .variables) → lowestBy j (suc m) i ≢ newGroup j m → runAt s′ i ≡ runAt s i
+    same : (i : ℕ) → i < length (j .variables) → lowestBy j (suc m) i ≢ newLabel j m → runAt s′ i ≡ runAt s i
     same i h n = stays (lowestBy j (suc m) i) n (lowestBy-self j (suc m) i) S (below i h) i h (old i n)
 
-    many : (i : ℕ) → i < length (j .variables) → Dec (lowestBy j (suc m) i ≡ newGroup j m) → runAt s′ i .many ≡ runAt s′ (lowestBy j (suc m) i) .many
+    many : (i : ℕ) → i < length (j .variables) → Dec (lowestBy j (suc m) i ≡ newLabel j m) → runAt s′ i .many ≡ runAt s′ (lowestBy j (suc m) i) .many
     many i h (yes e) = S .many i h e ∙ ap (λ g. runAt s′ g .many) (sym e)
     many i h (no n) =
         ap (λ r. r .many) (same i h n) ∙ inv .many i h ∙ ap (λ g. runAt s g .many) (old i n)
-        ∙ sym (ap (λ r. r .many) (same (lowestBy j (suc m) i) (below i h) (subst (λ g. g ≢ newGroup j m) (sym (lowestBy-self j (suc m) i)) n)))
+        ∙ sym (ap (λ r. r .many) (same (lowestBy j (suc m) i) (below i h) (subst (λ g. g ≢ newLabel j m) (sym (lowestBy-self j (suc m) i)) n)))
 
-    form : (i : ℕ) → i < length (j .variables) → Dec (lowestBy j (suc m) i ≡ newGroup j m) → FamilyRun (runAt s′ i)
+    form : (i : ℕ) → i < length (j .variables) → Dec (lowestBy j (suc m) i ≡ newLabel j m) → FamilyRun (runAt s′ i)
     form i h (yes e) = S .form i h e
     form i h (no n) = subst FamilyRun (sym (same i h n)) (inv .form i h)
 
-    rises : (g : ℕ) → g < length (j .variables) → lowestBy j (suc m) g ≡ g → Dec (g ≡ newGroup j m) → 2 ≤ runAt s′ g .many → pos 0 <ℤ runAt s′ g .step
+    rises : (g : ℕ) → g < length (j .variables) → lowestBy j (suc m) g ≡ g → Dec (g ≡ newLabel j m) → 2 ≤ runAt s′ g .many → pos 0 <ℤ runAt s′ g .step
     rises g b z (yes e) t = subst (λ g. 2 ≤ runAt s′ g .many → pos 0 <ℤ runAt s′ g .step) (sym e) (S .rises) t
     rises g b z (no n) t =
         let q : runAt s′ g ≡ runAt s g = stays g n z S b g b (from-other j m g n g z) in

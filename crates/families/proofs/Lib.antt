@@ -18,7 +18,7 @@ pub mod JoinStep
 -- what one equation leaves, in one form for both
 pub mod OneEquation
 -- the groups' labels, one equation more
-pub mod GroupLabels
+pub mod Labels
 -- one equation more, in general
 pub mod InvariantStep
 -- the two ways in which an equation changes the runs
@@ -26,22 +26,22 @@ pub mod StateStep
 -- before any equation
 pub mod StartState
 -- the invariant after any number of equations
-pub mod Invariants
+pub mod InvariantHolds
 -- the solutions of a group, in order, are the members of its family
 pub mod SolutionsAreMembers
 -- how large the numbers of a family are
 pub mod FamilySizes
 -- the model ends in the definitions
-pub mod Exact
+pub mod ModelIsExact
 -- the best of one group: the last of its family where the gain is above 0, and the first elsewhere
-pub mod BestOfGroup
+pub mod BestOfComponent
 -- the best of the whole job: the best of each group, put together
 pub mod BestOfJob
 -- the best of a lawful job, by what the model ends in
-pub mod Plans
+pub mod PlanIsBest
 -- the choice and the sheet of the model are those of the definitions
-pub mod Planned
+pub mod ModelFindings
 -- document 01's ten jobs marked *: bytes in, verdict and whole sheet out
-pub mod Marked
+pub mod MarkedJobs
 -- what a planned sheet says of the groups: the second demand
-pub mod Sheets
+pub mod SheetFamilies

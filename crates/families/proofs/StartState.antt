@@ -25,7 +25,7 @@ use Rattle.jobs.specs.Job.{Job, variable}
 use Rattle.jobs.specs.Solution.{number}
 use Rattle.jobs.specs.Component.{lowestBy}
 use Rattle.jobs.specs.Table.{InRange}
-use Rattle.families.specs.Model.{groupAt, runAt, interval, startState}
+use Rattle.families.specs.Model.{labelAt, runAt, interval, startState}
 use Rattle.families.specs.Invariant.{Keeps, OnFamily, Invariant}
 use Rattle.families.proofs.InvariantStep.{on-family}
 
@@ -86,22 +86,22 @@ module _ (j : Job) where
   abbrev pub startRun : ℕ → Run
   startRun i = meetModel full (interval (variable j i .low) (variable j i .high))
 
-  start-groups : startState j .groups ≡ upTo (length (j .variables))
+  start-labels : startState j .labels ≡ upTo (length (j .variables))
   unfolding startState
-  start-groups = refl
+  start-labels = refl
 
   start-runs : startState j .runs ≡ table startRun (length (j .variables))
   unfolding startState
   start-runs = refl
 
-  pub start-lengths : (length (startState j .groups) ≡ length (j .variables)) × (length (startState j .runs) ≡ length (j .variables))
-  start-lengths = (ap length start-groups ∙ length-upTo (length (j .variables)), ap length start-runs ∙ length-table startRun (length (j .variables)))
+  pub start-lengths : (length (startState j .labels) ≡ length (j .variables)) × (length (startState j .runs) ≡ length (j .variables))
+  start-lengths = (ap length start-labels ∙ length-upTo (length (j .variables)), ap length start-runs ∙ length-table startRun (length (j .variables)))
 
   pub run-at : (i : ℕ) → i < length (j .variables) → runAt (startState j) i ≡ startRun i
   run-at i h = ap (λ rs. getD rs i empty) start-runs ∙ table-at startRun (length (j .variables)) i empty h
 
-  pub group-at : (i : ℕ) → i < length (j .variables) → groupAt (startState j) i ≡ i
-  group-at i h = ap (λ gs. getD gs i 0) start-groups ∙ table-at (λ i. i) (length (j .variables)) i 0 h
+  pub label-at : (i : ℕ) → i < length (j .variables) → labelAt (startState j) i ≡ i
+  label-at i h = ap (λ gs. getD gs i 0) start-labels ∙ table-at (λ i. i) (length (j .variables)) i 0 h
 
   own : (i : ℕ) → lowestBy j 0 i ≡ i
   unfolding lowestBy
@@ -116,7 +116,7 @@ module _ (j : Job) where
 
     pub begins : Invariant j 0 (startState j)
     begins = record {
-      groups = λ i h. group-at i h ∙ sym (own i);
+      labels = λ i h. label-at i h ∙ sym (own i);
       family = λ g b z x. (to g b z x, from g b x);
       many = λ i h. ap (λ g. runAt (startState j) g .many) (sym (own i));
       form = λ i h. one-form-family (form i h);

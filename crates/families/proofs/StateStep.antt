@@ -22,7 +22,7 @@ use Rattle.families.specs.Invariant.{IsMember, OnFamily, Invariant}
 use Rattle.families.proofs.Subfamily.{after-left, after-right, after-other, Holds, Picks, pick, pick-is, pick-below, same-nat, two-to-pick, through-many, through-step, through-at, through-form}
 use Rattle.families.proofs.JoinStep.{At}
 use Rattle.families.proofs.OneEquation.{Leaves}
-use Rattle.families.proofs.GroupLabels.{leftGroup, rightGroup, newGroup, InEither, Relabelled, from-left, from-right, stays, relabelled, new-is, to-new, from-new}
+use Rattle.families.proofs.Labels.{leftLabel, rightLabel, newLabel, InEither, Relabelled, from-left, from-right, stays, relabelled, new-is, to-new, from-new}
 use Rattle.families.proofs.InvariantStep.{on-family, OnBoth, Step, Named, left-below, right-below, left-self, right-self, new-below, new-self}
 
 -- an equation's value by the numbers of its two variables
@@ -73,15 +73,15 @@ module _ {j : Job} {m : ℕ} {s : State} (named : Named j m) (inv : Invariant j 
   abbrev Q : Run
   Q = runAt s (equation j m .right)
 
-  left-many : P .many ≡ runAt s (leftGroup j m) .many
+  left-many : P .many ≡ runAt s (leftLabel j m) .many
   left-many = inv .many (equation j m .left) (named .left)
 
-  right-many : Q .many ≡ runAt s (rightGroup j m) .many
+  right-many : Q .many ≡ runAt s (rightLabel j m) .many
   right-many = inv .many (equation j m .right) (named .right)
 
   -- ---- a redundant equation: the groups are one already, and it holds at every index
-  module _ (one : leftGroup j m ≡ rightGroup j m) (all : (k : ℕ) → Holds (form (equation j m)) (nth P k) (nth Q k)) where
-    new-left : newGroup j m ≡ leftGroup j m
+  module _ (one : leftLabel j m ≡ rightLabel j m) (all : (k : ℕ) → Holds (form (equation j m)) (nth P k) (nth Q k)) where
+    new-left : newLabel j m ≡ leftLabel j m
     new-left = ⊎-elim (λ e. e) (λ e. e ∙ sym one) (new-is j m)
 
     pub same-label : (i : ℕ) → lowestBy j (suc m) i ≡ lowestBy j m i
@@ -92,23 +92,23 @@ module _ {j : Job} {m : ℕ} {s : State} (named : Named j m) (inv : Invariant j 
         go (from-right a b) = b ∙ new-left ∙ one ∙ sym a
         go (stays a b c) = c
 
-    new-old : lowestBy j m (newGroup j m) ≡ newGroup j m
-    new-old = sym (same-label (newGroup j m)) ∙ new-self named
+    new-old : lowestBy j m (newLabel j m) ≡ newLabel j m
+    new-old = sym (same-label (newLabel j m)) ∙ new-self named
 
     -- a member of the group's family before is one after, and keeps the equation
-    was-on : (x : List ℤ) → OnFamily j (suc m) (runAt s) (newGroup j m) x → OnFamily j m (runAt s) (leftGroup j m) x
-    was-on x o = on-family (left-below named) (left-self named) (inv .form (leftGroup j m) (left-below named)) (record {
+    was-on : (x : List ℤ) → OnFamily j (suc m) (runAt s) (newLabel j m) x → OnFamily j m (runAt s) (leftLabel j m) x
+    was-on x o = on-family (left-below named) (left-self named) (inv .form (leftLabel j m) (left-below named)) (record {
       below = subst (λ g. o .k < runAt s g .many) new-left (o .is .below);
       at = λ i h l. o .is .at i h (to-new j m i (inl l));
     })
 
-    is-on : (x : List ℤ) → OnFamily j m (runAt s) (leftGroup j m) x → OnFamily j (suc m) (runAt s) (newGroup j m) x
-    is-on x o = on-family (new-below named) (new-self named) (inv .form (newGroup j m) (new-below named)) (record {
+    is-on : (x : List ℤ) → OnFamily j m (runAt s) (leftLabel j m) x → OnFamily j (suc m) (runAt s) (newLabel j m) x
+    is-on x o = on-family (new-below named) (new-self named) (inv .form (newLabel j m) (new-below named)) (record {
       below = subst (λ g. o .k < runAt s g .many) (sym new-left) (o .is .below);
       at = λ i h l. o .is .at i h (sym (same-label i) ∙ l ∙ new-left);
     })
 
-    keeps : (x : List ℤ) → OnFamily j (suc m) (runAt s) (newGroup j m) x → value (equation j m) x ≡ equation j m .c
+    keeps : (x : List ℤ) → OnFamily j (suc m) (runAt s) (newLabel j m) x → value (equation j m) x ≡ equation j m .c
     keeps x o =
         valued (equation j m) x (o .is .at (equation j m .left) (named .left) (to-new j m (equation j m .left) (inl refl)))
         (o .is .at (equation j m .right) (named .right) (to-new j m (equation j m .right) (inr refl))) ∙ all (o .k)
@@ -118,85 +118,85 @@ module _ {j : Job} {m : ℕ} {s : State} (named : Named j m) (inv : Invariant j 
       other = λ i h a b. refl;
       many = λ i h e. inv .many i h ∙ ap (λ g. runAt s g .many) (sym (same-label i) ∙ e);
       form = λ i h e. inv .form i h;
-      rises = inv .rises (newGroup j m) (new-below named) new-old;
+      rises = inv .rises (newLabel j m) (new-below named) new-old;
       family = λ x. (λ o. (was-on x o, subst (λ g. OnFamily j m (runAt s) g x) one (was-on x o), keeps x o), λ (p, q, e). is-on x p);
     }
 
   -- ---- an equation that leaves the pairs of indices ix
-  module _ {ix : Indices} (L : Leaves (form (equation j m)) (leftGroup j m) (rightGroup j m) P Q ix) {run′ : ℕ → Run}
-      (is : (i : ℕ) → i < length (j .variables) → run′ i ≡ runAfter (leftGroup j m) (rightGroup j m) ix (lowestBy j m i) (runAt s i)) where
-    in-left : (i : ℕ) → i < length (j .variables) → lowestBy j m i ≡ leftGroup j m → run′ i ≡ through (runAt s i) (ix .left)
-    in-left i h e = is i h ∙ after-left (leftGroup j m) (rightGroup j m) ix (lowestBy j m i) (runAt s i) e
+  module _ {ix : Indices} (L : Leaves (form (equation j m)) (leftLabel j m) (rightLabel j m) P Q ix) {run′ : ℕ → Run}
+      (is : (i : ℕ) → i < length (j .variables) → run′ i ≡ runAfter (leftLabel j m) (rightLabel j m) ix (lowestBy j m i) (runAt s i)) where
+    in-left : (i : ℕ) → i < length (j .variables) → lowestBy j m i ≡ leftLabel j m → run′ i ≡ through (runAt s i) (ix .left)
+    in-left i h e = is i h ∙ after-left (leftLabel j m) (rightLabel j m) ix (lowestBy j m i) (runAt s i) e
 
-    in-right : (i : ℕ) → i < length (j .variables) → lowestBy j m i ≡ rightGroup j m → run′ i ≡ through (runAt s i) (ix .right)
-    in-right i h e = go (ℕ-discrete (lowestBy j m i) (leftGroup j m))
+    in-right : (i : ℕ) → i < length (j .variables) → lowestBy j m i ≡ rightLabel j m → run′ i ≡ through (runAt s i) (ix .right)
+    in-right i h e = go (ℕ-discrete (lowestBy j m i) (leftLabel j m))
       where
-        go : Dec (lowestBy j m i ≡ leftGroup j m) → run′ i ≡ through (runAt s i) (ix .right)
+        go : Dec (lowestBy j m i ≡ leftLabel j m) → run′ i ≡ through (runAt s i) (ix .right)
         go (yes l) = in-left i h l ∙ ap (through (runAt s i)) (L .one (sym l ∙ e))
-        go (no n) = is i h ∙ after-right (leftGroup j m) (rightGroup j m) ix (lowestBy j m i) (runAt s i) n e
+        go (no n) = is i h ∙ after-right (leftLabel j m) (rightLabel j m) ix (lowestBy j m i) (runAt s i) n e
 
-    elsewhere : (i : ℕ) → i < length (j .variables) → lowestBy j m i ≢ leftGroup j m → lowestBy j m i ≢ rightGroup j m → run′ i ≡ runAt s i
-    elsewhere i h a b = is i h ∙ after-other (leftGroup j m) (rightGroup j m) ix (lowestBy j m i) (runAt s i) a b
+    elsewhere : (i : ℕ) → i < length (j .variables) → lowestBy j m i ≢ leftLabel j m → lowestBy j m i ≢ rightLabel j m → run′ i ≡ runAt s i
+    elsewhere i h a b = is i h ∙ after-other (leftLabel j m) (rightLabel j m) ix (lowestBy j m i) (runAt s i) a b
 
-    left : Side j m s run′ (leftGroup j m) (ix .left)
+    left : Side j m s run′ (leftLabel j m) (ix .left)
     left = record { below = left-below named; self = left-self named; picks = subst (Picks (ix .left)) left-many (L .left); taken = in-left }
 
-    right : Side j m s run′ (rightGroup j m) (ix .right)
+    right : Side j m s run′ (rightLabel j m) (ix .right)
     right = record { below = right-below named; self = right-self named; picks = subst (Picks (ix .right)) right-many (L .right); taken = in-right }
 
     also : {t : ℕ} → t < ix .left .many → t < ix .right .many
     also {t} h = subst (λ n. t < n) (sym (L .many)) h
 
-    new-many : (i : ℕ) → i < length (j .variables) → lowestBy j (suc m) i ≡ newGroup j m → run′ i .many ≡ ix .left .many
+    new-many : (i : ℕ) → i < length (j .variables) → lowestBy j (suc m) i ≡ newLabel j m → run′ i .many ≡ ix .left .many
     new-many i h e = ⊎-elim (taken-many inv left i h) (λ l. taken-many inv right i h l ∙ L .many) (from-new j m i e)
 
-    lowest-many : run′ (newGroup j m) .many ≡ ix .left .many
-    lowest-many = new-many (newGroup j m) (new-below named) (new-self named)
+    lowest-many : run′ (newLabel j m) .many ≡ ix .left .many
+    lowest-many = new-many (newLabel j m) (new-below named) (new-self named)
 
-    new-form : (i : ℕ) → i < length (j .variables) → lowestBy j (suc m) i ≡ newGroup j m → FamilyRun (run′ i)
+    new-form : (i : ℕ) → i < length (j .variables) → lowestBy j (suc m) i ≡ newLabel j m → FamilyRun (run′ i)
     new-form i h e = ⊎-elim (taken-form inv left i h) (taken-form inv right i h) (from-new j m i e)
 
-    new-rises : 2 ≤ run′ (newGroup j m) .many → pos 0 <ℤ run′ (newGroup j m) .step
-    new-rises t = go (ltb (leftGroup j m) (rightGroup j m)) refl (L .rises two)
+    new-rises : 2 ≤ run′ (newLabel j m) .many → pos 0 <ℤ run′ (newLabel j m) .step
+    new-rises t = go (ltb (leftLabel j m) (rightLabel j m)) refl (L .rises two)
       where
         two : 2 ≤ ix .left .many
         two = subst (λ n. 2 ≤ n) lowest-many t
 
-        go : (b : Bool) → ltb (leftGroup j m) (rightGroup j m) ≡ b → pos 0 <ℤ leading b ix .step → pos 0 <ℤ run′ (newGroup j m) .step
+        go : (b : Bool) → ltb (leftLabel j m) (rightLabel j m) ≡ b → pos 0 <ℤ leading b ix .step → pos 0 <ℤ run′ (newLabel j m) .step
         go true b h =
-            let e : newGroup j m ≡ leftGroup j m = omega (arith, ltb-true (leftGroup j m) (rightGroup j m) b) in
+            let e : newLabel j m ≡ leftLabel j m = omega (arith, ltb-true (leftLabel j m) (rightLabel j m) b) in
             subst (λ g. pos 0 <ℤ run′ g .step) (sym e) (taken-rises inv left two h)
         go false b h =
-            let e : newGroup j m ≡ rightGroup j m = omega (arith, ltb-false (leftGroup j m) (rightGroup j m) b) in
+            let e : newLabel j m ≡ rightLabel j m = omega (arith, ltb-false (leftLabel j m) (rightLabel j m) b) in
             subst (λ g. pos 0 <ℤ run′ g .step) (sym e) (taken-rises inv right (subst (λ n. 2 ≤ n) (sym (L .many)) two) h)
 
     -- a member of the new family is a member of both, at a pair of indices
-    split : (x : List ℤ) → OnFamily j (suc m) run′ (newGroup j m) x → OnBoth j m (runAt s) x
+    split : (x : List ℤ) → OnFamily j (suc m) run′ (newLabel j m) x → OnBoth j m (runAt s) x
     split x o = (
-      on-family (left-below named) (left-self named) (inv .form (leftGroup j m) (left-below named)) p,
-      on-family (right-below named) (right-self named) (inv .form (rightGroup j m) (right-below named)) q,
+      on-family (left-below named) (left-self named) (inv .form (leftLabel j m) (left-below named)) p,
+      on-family (right-below named) (right-self named) (inv .form (rightLabel j m) (right-below named)) q,
       valued (equation j m) x (p .at (equation j m .left) (named .left) refl) (q .at (equation j m .right) (named .right) refl) ∙ L .holds (o .k) b,
     )
       where
         b : o .k < ix .left .many
         b = subst (λ n. o .k < n) lowest-many (o .is .below)
 
-        p : IsMember j m (runAt s) (leftGroup j m) (pick (ix .left) (o .k)) x
+        p : IsMember j m (runAt s) (leftLabel j m) (pick (ix .left) (o .k)) x
         p = was-member inv left b (λ i h l. o .is .at i h (to-new j m i (inl l)))
 
-        q : IsMember j m (runAt s) (rightGroup j m) (pick (ix .right) (o .k)) x
+        q : IsMember j m (runAt s) (rightLabel j m) (pick (ix .right) (o .k)) x
         q = was-member inv right (also b) (λ i h l. o .is .at i h (to-new j m i (inr l)))
 
     -- and the members of both at a pair of indices make one of the new family
-    module _ {x : List ℤ} (p : OnFamily j m (runAt s) (leftGroup j m) x) (q : OnFamily j m (runAt s) (rightGroup j m) x) where
+    module _ {x : List ℤ} (p : OnFamily j m (runAt s) (leftLabel j m) x) (q : OnFamily j m (runAt s) (rightLabel j m) x) where
       pair : value (equation j m) x ≡ equation j m .c → At ix (p .k) (q .k)
       pair e =
           L .all (p .k) (q .k) (subst (λ n. p .k < n) (sym left-many) (p .is .below)) (subst (λ n. q .k < n) (sym right-many) (q .is .below))
           (λ z. q .only (p .k) (subst (λ g. IsMember j m (runAt s) g (p .k) x) z (p .is)))
           (sym (valued (equation j m) x (p .is .at (equation j m .left) (named .left) refl) (q .is .at (equation j m .right) (named .right) refl)) ∙ e)
 
-      paired : At ix (p .k) (q .k) → OnFamily j (suc m) run′ (newGroup j m) x
-      paired a = on-family (new-below named) (new-self named) (new-form (newGroup j m) (new-below named) (new-self named)) (record {
+      paired : At ix (p .k) (q .k) → OnFamily j (suc m) run′ (newLabel j m) x
+      paired a = on-family (new-below named) (new-self named) (new-form (newLabel j m) (new-below named) (new-self named)) (record {
         below = subst (λ n. a .place < n) (sym lowest-many) (a .below);
         at = λ i h l. at i h (from-new j m i l);
       })

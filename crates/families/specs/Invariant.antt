@@ -12,7 +12,7 @@ use Rattle.families.specs.FamilyRun.{FamilyRun}
 use Rattle.jobs.specs.Job.{Job, variable, equation}
 use Rattle.jobs.specs.Solution.{number, value}
 use Rattle.jobs.specs.Component.{lowestBy}
-use Rattle.families.specs.Model.{State, groupAt, runAt}
+use Rattle.families.specs.Model.{State, labelAt, runAt}
 
 -- x keeps the bounds of the variables of group g, and of the first m equations those that lie in it hold
 pub record Keeps (j : Job) (m g : ℕ) (x : List ℤ) : Type 0 where
@@ -36,7 +36,7 @@ pub record OnFamily (j : Job) (m : ℕ) (run : ℕ → Run) (g : ℕ) (x : List 
 -- The form: many is the same in all of a group; with two or more the lowest variable rises and no step is 0, with one every
 -- step is 0, and the empty family is 0, 0, 0 (`FamilyRun`).
 pub record Invariant (j : Job) (m : ℕ) (s : State) : Type 0 where
-  pub groups : (i : ℕ) → i < length (j .variables) → groupAt s i ≡ lowestBy j m i
+  pub labels : (i : ℕ) → i < length (j .variables) → labelAt s i ≡ lowestBy j m i
   pub family : (g : ℕ) → g < length (j .variables) → lowestBy j m g ≡ g → (x : List ℤ) → Keeps j m g x ↔ OnFamily j m (runAt s) g x
   pub many : (i : ℕ) → i < length (j .variables) → runAt s i .many ≡ runAt s (lowestBy j m i) .many
   pub form : (i : ℕ) → i < length (j .variables) → FamilyRun (runAt s i)

@@ -9,6 +9,6 @@ pub mod Model
 -- what is known of the model's state after some of the equations
 pub mod Invariant
 -- the choice and the sheet as functions on lists
-pub mod Plan
+pub mod ModelFindings
 -- small jobs through the model, and its pieces at worked values
 pub mod Vectors

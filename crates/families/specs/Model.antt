@@ -1,5 +1,5 @@
 -- The model: the planner's steps as functions on lists. They compute, however long the runs are. Nothing here has to be believed:
--- proofs/Exact.antt shows that what they end in is `familyRun`.
+-- proofs/ModelIsExact.antt shows that what they end in is `familyRun`.
 use mathlib.Core.Bool.{Bool, cond}
 use mathlib.Core.Option.{Option, none, some}
 use mathlib.Core.List.{List, map}
@@ -27,11 +27,11 @@ use Rattle.jobs.specs.Component.{merged}
 -- many; k and many are the group's, so that all its variables move together. A step may be negative; that of the group's
 -- lowest variable is not.
 pub record State : Type 0 where
-  pub groups : List ℕ
+  pub labels : List ℕ
   pub runs : List Run
 
-abbrev pub groupAt : State → ℕ → ℕ
-groupAt s i = getD (s .groups) i 0
+abbrev pub labelAt : State → ℕ → ℕ
+labelAt s i = getD (s .labels) i 0
 
 abbrev pub runAt : State → ℕ → Run
 runAt s i = getD (s .runs) i empty
@@ -44,7 +44,7 @@ unfoldable pub startState : Job → State
 unfolding table meetModel
 startState j =
     let n = length (j .variables) in
-    record { groups = upTo n; runs = table (λ i. meetModel full (interval (variable j i .low) (variable j i .high))) n }
+    record { labels = upTo n; runs = table (λ i. meetModel full (interval (variable j i .low) (variable j i .high))) n }
 
 -- ---- part of a family: the members at the indices first + step·k of a run, in its order
 abbrev pub membersAt : Run → Run → Run
@@ -129,15 +129,15 @@ unfoldable pub change : ℕ → ℕ → Option Indices → State → State
 unfolding table
 change l r none s = s
 change l r (some i) s = record {
-  groups = map (merged l r) (s .groups);
-  runs = table (λ k. runAfter l r i (groupAt s k) (runAt s k)) (length (s .runs));
+  labels = map (merged l r) (s .labels);
+  runs = table (λ k. runAfter l r i (labelAt s k) (runAt s k)) (length (s .runs));
 }
 
 unfoldable pub next : Equation → State → State
 unfolding kept change
 next e s =
-    let l = groupAt s (e .left) in
-    let r = groupAt s (e .right) in
+    let l = labelAt s (e .left) in
+    let r = labelAt s (e .right) in
     change l r (kept (form e) l r (runAt s (e .left)) (runAt s (e .right))) s
 
 -- ---- after the first m equations, in their order

@@ -25,7 +25,7 @@ use Rattle.jobs.specs.Demands.{baseOn, stepOn, groupOn, fitsOn}
 use Rattle.jobs.specs.JobBytes.{plus, minus, header, count, plain, equation, total, difference}
 use Rattle.jobs.specs.Vectors.{Vector, fitted, vectors}
 use Rattle.families.specs.Family.{choice}
-use Rattle.families.specs.Model.{State, groupAt, runAt, interval, through, candidate, cycle, Indices, commonNumbers, directed, kept, stateAfterAll}
+use Rattle.families.specs.Model.{State, labelAt, runAt, interval, through, candidate, cycle, Indices, commonNumbers, directed, kept, stateAfterAll}
 
 abbrev run : ℤ → ℤ → ℕ → Run
 run first step many = record { first = first; step = step; many = many }
@@ -36,7 +36,7 @@ run first step many = record { first = first; step = step; many = many }
 -- that are written, none where there is no fit
 pub record Worked : Type 0 where
   pub job : List ℕ
-  pub groups : List ℕ
+  pub labels : List ℕ
   pub g : ℕ
   pub runs : List Run
   pub room : ℕ
@@ -144,7 +144,7 @@ widestSheet =
 abbrev tied : List ℕ → Run → Run → Verdict → List ℕ → Worked
 tied job run0 run1 verdict sheet = record {
   job = job;
-  groups = 0 ∷ 0 ∷ [];
+  labels = 0 ∷ 0 ∷ [];
   g = 1;
   runs = run0 ∷ run1 ∷ [];
   room = 72;
@@ -160,7 +160,7 @@ markedJobs =
     -- M: c0 is 2, 5, 8 or 11; at 14 c1 would be over 200
     record {
       job = jobM;
-      groups = 0 ∷ 0 ∷ 0 ∷ 3 ∷ [];
+      labels = 0 ∷ 0 ∷ 0 ∷ 3 ∷ [];
       g = 2;
       runs = run (pos 2) (pos 3) 4 ∷ run (pos 32) (pos 48) 4 ∷ run (pos 0) (pos 2) 4 ∷ run (pos 2) (pos 1) 4 ∷ [];
       room = 120;
@@ -168,7 +168,7 @@ markedJobs =
       sheet = sheetM;
     } ∷
     -- no counts
-    record { job = header 0 0 24 24; groups = []; g = 0; runs = []; room = 24; verdict = planned (pos 0); sheet = emptySheet } ∷
+    record { job = header 0 0 24 24; labels = []; g = 0; runs = []; room = 24; verdict = planned (pos 0); sheet = emptySheet } ∷
     -- 2·c0 + 4·c1 = 7
     without (once (plain 9) (plain 9) (equation 0 1 (plus 2) (plus 4) 7)) ∷
     -- 3·c0 − 5·c1 = 0: of 1..4 none is a multiple of 5
@@ -185,7 +185,7 @@ markedJobs =
     -- the full range
     record {
       job = widest;
-      groups = 0 ∷ [];
+      labels = 0 ∷ [];
       g = 1;
       runs = run (negℤ (pos 1000000000)) (pos 1) 2000000001 ∷ [];
       room = 56;
@@ -194,14 +194,14 @@ markedJobs =
     } ∷ []
 
 -- the lowest variable of each group
-abbrev pub labels : State → List ℕ
-labels s = keep (λ i. eqb (groupAt s i) i) (upTo (length (s .groups)))
+abbrev pub leadsOf : State → List ℕ
+leadsOf s = keep (λ i. eqb (labelAt s i) i) (upTo (length (s .labels)))
 
 abbrev given : Worked → Answer × (State × (ℕ × ℕ))
-given v = let s = stateAfterAll (jobOf (v .job)) in (checked (v .job), (s, (length (labels s), componentCount (jobOf (v .job)))))
+given v = let s = stateAfterAll (jobOf (v .job)) in (checked (v .job), (s, (length (leadsOf s), componentCount (jobOf (v .job)))))
 
 abbrev expected : Worked → Answer × (State × (ℕ × ℕ))
-expected v = (accepted, (record { groups = v .groups; runs = v .runs }, (v .g, v .g)))
+expected v = (accepted, (record { labels = v .labels; runs = v .runs }, (v .g, v .g)))
 
 marked-computed : map given markedJobs ≡ map expected markedJobs
 unfolding checked stateAfterAll jobOf leads keep unsigned table
@@ -209,8 +209,8 @@ marked-computed = refl
 
 -- the job check accepts each of them, the model gives what was worked out, and as many groups as the definition
 pub marked : (v : Worked) → v ∈ markedJobs →
-    (checked (v .job) ≡ accepted) × ((stateAfterAll (jobOf (v .job)) ≡ record { groups = v .groups; runs = v .runs }) ×
-    ((length (labels (stateAfterAll (jobOf (v .job)))) ≡ v .g) × (componentCount (jobOf (v .job)) ≡ v .g)))
+    (checked (v .job) ≡ accepted) × ((stateAfterAll (jobOf (v .job)) ≡ record { labels = v .labels; runs = v .runs }) ×
+    ((length (leadsOf (stateAfterAll (jobOf (v .job)))) ≡ v .g) × (componentCount (jobOf (v .job)) ≡ v .g)))
 marked v h =
     let e = same-values given expected marked-computed h in
     (ap (λ p. p .0) e, (ap (λ p. p .1 .0) e, (ap (λ p. p .1 .1 .0) e, ap (λ p. p .1 .1 .1) e)))
@@ -222,7 +222,7 @@ onSheet v =
     let s = v .after in
     let n = u16 s 4 in
     record {
-      groups = table (λ i. place (λ k. eqb (groupOn s k) (groupOn s i)) (upTo n)) n;
+      labels = table (λ i. place (λ k. eqb (groupOn s k) (groupOn s i)) (upTo n)) n;
       runs = table (λ i. run (baseOn s i) (stepOn s i) (fitsOn (jobOf (v .job)) s (groupOn s i))) n;
     }
 
@@ -231,7 +231,7 @@ abbrev groupsOn : Vector → List ℕ
 groupsOn v = upTo (u16 (v .after) 6)
 
 abbrev modelled : Vector → State × List ℕ
-modelled v = let s = stateAfterAll (jobOf (v .job)) in (s, map (groupOn (v .after)) (labels s))
+modelled v = let s = stateAfterAll (jobOf (v .job)) in (s, map (groupOn (v .after)) (leadsOf s))
 
 fitted-computed : map modelled fitted ≡ map (λ v. (onSheet v, groupsOn v)) fitted
 unfolding stateAfterAll jobOf unsigned keep place table
@@ -239,12 +239,12 @@ fitted-computed = refl
 
 -- the model gives what stands on the sheet, where its groups, in the order of their lowest variables, are numbered from 0
 pub fitted-model : (v : Vector) → v ∈ fitted →
-    (stateAfterAll (jobOf (v .job)) ≡ onSheet v) × (map (groupOn (v .after)) (labels (stateAfterAll (jobOf (v .job)))) ≡ groupsOn v)
+    (stateAfterAll (jobOf (v .job)) ≡ onSheet v) × (map (groupOn (v .after)) (leadsOf (stateAfterAll (jobOf (v .job)))) ≡ groupsOn v)
 fitted-model v h = let e = same-values modelled (λ v. (onSheet v, groupsOn v)) fitted-computed h in (ap (λ p. p .0) e, ap (λ p. p .1) e)
 
 -- the lowest variable of the first group without a solution
 abbrev firstEmpty : State → Option ℕ
-firstEmpty s = firstOf (λ l. equal? (runAt s l .many) 0) (labels s)
+firstEmpty s = firstOf (λ l. equal? (runAt s l .many) 0) (leadsOf s)
 
 -- what a verdict says of it
 abbrev named : Verdict → Option ℕ

@@ -31,7 +31,7 @@ use Rattle.jobs.specs.Demands.{worthOn, numberOn, numbersOn, TurnsAway, 
 use Rattle.jobs.proofs.Faults.{first-by, reported-iff, sound-iff}
 use Rattle.jobs.proofs.Lawful.{lawful-named, lawful}
 use Rattle.bytes.proofs.TwosComplement.{within-holds}
-use Rattle.jobs.proofs.Fields.{number-back, worth-back, laidOut-back, if-planned, if-noFit, if-refused, length-sheet, drop-sheet}
+use Rattle.jobs.proofs.SheetFields.{number-back, worth-back, laidOut-back, if-planned, if-noFit, if-refused, length-sheet, drop-sheet}
 use Rattle.jobs.proofs.Solutions.{best-is}
 use Rattle.jobs.proofs.Components.{in-leads}
 use Rattle.jobs.proofs.Numbering.{lead-iff, groups-are, short-iff}

@@ -24,9 +24,9 @@ pub mod Numbering
 -- from groups to the whole job and back
 pub mod Assembly
 -- where the best stands among the solutions
-pub mod Chosen
+pub mod PlaceOfBest
 -- where the fields of a sheet stand
-pub mod Fields
+pub mod SheetFields
 -- the definitions keep the demands, as far as that needs no families
 pub mod DemandsHold
 -- verdict and sheet, case by case

@@ -21,7 +21,7 @@ use Rattle.jobs.specs.Verdict.{refused, firstWithout, outcome, short?, v
 use Rattle.jobs.specs.Sheet.{sheet}
 use Rattle.jobs.proofs.FirstOf.{first-here, first-later, first-stays}
 use Rattle.bytes.proofs.LittleEndian.{unsigned-first}
-use Rattle.jobs.proofs.Fields.{if-refused}
+use Rattle.jobs.proofs.SheetFields.{if-refused}
 use Rattle.jobs.proofs.DemandsHold.{verdict-is}
 
 -- ---- the reason, where there are too many bytes: by the mark and the counts alone

@@ -17,7 +17,7 @@ use Rattle.jobs.specs.Verdict.{planned, noFit, refused, firstWithout, ou
 use Rattle.jobs.specs.Sheet.{laidOut, sheet}
 use Rattle.jobs.proofs.FirstOf.{first-here}
 use Rattle.jobs.proofs.Faults.{fault-checked, fault-short, fault-none, accepted-none, refused-some}
-use Rattle.jobs.proofs.Fields.{if-planned, if-noFit, if-refused}
+use Rattle.jobs.proofs.SheetFields.{if-planned, if-noFit, if-refused}
 use Rattle.jobs.proofs.DemandsHold.{fault, verdict-is}
 
 module _ (s area : List ℕ) where

@@ -10,28 +10,28 @@ use Rattle.jobs.specs.Solution.{number, objective, best}
 use Rattle.jobs.specs.Component.{leads, component}
 use Rattle.jobs.specs.Family.{componentJob, chosen, slope, familyRun}
 
--- n: how many variables there are; leaders: the lowest variable of each group, in order.
--- Of a variable, group: the number of its group; run: its base and step, and how many fits its group has; assigned: its number.
--- Of a group, by its lowest variable, index: the chosen k; gain: what a step is worth. And worth: that of the numbers.
+-- n: how many variables there are; leads: the lowest variable of each component, in order.
+-- Of a variable, component: the number of its component; run: its base and step, and how many fits its component has; assigned: its
+-- number. Of a component, by its lowest variable, chosen: 01's k; slope: its gain. And objective: the worth of the numbers.
 pub record Findings : Type 0 where
   pub n : ℕ
-  pub leaders : List ℕ
-  pub group : ℕ → ℕ
+  pub leads : List ℕ
+  pub component : ℕ → ℕ
   pub run : ℕ → Run
   pub assigned : ℕ → ℤ
-  pub index : ℕ → ℕ
-  pub gain : ℕ → ℤ
-  pub worth : ℤ
+  pub chosen : ℕ → ℕ
+  pub slope : ℕ → ℤ
+  pub objective : ℤ
 
--- by the definitions: what is read off the solutions of each group, and the best solution of the job
+-- by the definitions: what is read off the solutions of each component, and the best solution of the job
 abbrev pub findings : Job → Findings
 findings j = record {
   n = length (j .variables);
-  leaders = leads j;
-  group = component j;
+  leads = leads j;
+  component = component j;
   run = familyRun j;
   assigned = number (best j);
-  index = λ l. chosen (componentJob j l);
-  gain = λ l. slope (componentJob j l);
-  worth = objective j (best j);
+  chosen = λ l. chosen (componentJob j l);
+  slope = λ l. slope (componentJob j l);
+  objective = objective j (best j);
 }

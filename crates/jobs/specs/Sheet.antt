@@ -46,9 +46,9 @@ sheetGroups r k gain leaders = flatMap (λ l. sheetGroup (r l .many) (k l) (gain
 unfoldable pub laidOut : Findings → List ℕ
 unfolding sheetHeader sheetVariables sheetGroups
 laidOut f =
-    sheetHeader (f .n) (length (f .leaders)) (f .worth)
-    ++ sheetVariables (f .assigned) (f .run) (f .group) (f .n)
-    ++ sheetGroups (f .run) (f .index) (f .gain) (f .leaders)
+    sheetHeader (f .n) (length (f .leads)) (f .objective)
+    ++ sheetVariables (f .assigned) (f .run) (f .component) (f .n)
+    ++ sheetGroups (f .run) (f .chosen) (f .slope) (f .leads)
 
 -- "Bytes past 24 + 16n + 16g keep their contents." "On no fit and on refusal the whole answer area keeps its contents."
 unfoldable pub areaAfter : Findings → Verdict → List ℕ → List ℕ

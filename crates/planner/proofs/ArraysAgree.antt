@@ -7,22 +7,22 @@ use Rattle.lists.specs.Table.{Tabulates}
 use Rattle.lists.proofs.Sums.{sum-ext}
 use Rattle.runs.specs.declared.Run.{Run}
 use Rattle.jobs.specs.Solution.{number}
-use Rattle.jobs.proofs.Fields.{Agree}
+use Rattle.jobs.proofs.SheetFields.{Agree}
 use Rattle.families.specs.Family.{choice}
-use Rattle.families.specs.Plan.{gainBy, chosenBy, numberBy, worthBy, findingsBy}
-use Rattle.solver.specs.Arrays.{groupIn, runIn}
-use Rattle.solver.specs.Groups.{Lowest}
-use Rattle.solver.proofs.Leads.{leads-below}
-use Rattle.planner.specs.Choice.{Members, numberIn, worthIn, chosenIn, findingsIn}
+use Rattle.families.specs.ModelFindings.{slopeBy, chosenBy, numberBy, objectiveBy, findingsBy}
+use Rattle.solver.specs.StateArrays.{labelIn, runIn}
+use Rattle.solver.specs.Labels.{Lowest}
+use Rattle.solver.proofs.LowestVariables.{leads-below}
+use Rattle.planner.specs.Choice.{Members, numberIn, objectiveIn, chosenIn, findingsIn}
 
-module _ (weights : List ℤ) (groups : List ℕ) (runs : List Run) (n : ℕ) (low : Lowest groups n) (m : Members groups runs n)
-    (gains : List ℤ) (sums : Tabulates (pos 0) (gainBy n (number weights) (groupIn groups) (runIn runs)) n gains)
-    (numbers : List ℤ) (values : Tabulates (pos 0) (numberIn groups runs gains) n numbers) where
+module _ (weights : List ℤ) (labels : List ℕ) (runs : List Run) (n : ℕ) (low : Lowest labels n) (m : Members labels runs n)
+    (slopes : List ℤ) (sums : Tabulates (pos 0) (slopeBy n (number weights) (labelIn labels) (runIn runs)) n slopes)
+    (numbers : List ℤ) (values : Tabulates (pos 0) (numberIn labels runs slopes) n numbers) where
   abbrev w : ℕ → ℤ
   w = number weights
 
   abbrev g : ℕ → ℕ
-  g = groupIn groups
+  g = labelIn labels
 
   abbrev r : ℕ → Run
   r = runIn runs
@@ -33,15 +33,15 @@ module _ (weights : List ℤ) (groups : List ℕ) (runs : List Run) (n : ℕ) (l
       values .at i h
       ∙ ap₂ (λ a k. r i .first +ℤ r i .step *ℤ pos (choice a k)) (sums .at (g i) (omega (arith, low .low i h, h))) (m .many i h)
 
-  chosen-is : (l : ℕ) → l < n → chosenIn runs gains l ≡ chosenBy n w g r l
+  chosen-is : (l : ℕ) → l < n → chosenIn runs slopes l ≡ chosenBy n w g r l
   unfolding chosenBy
   chosen-is l h = ap (λ a. choice a (r l .many)) (sums .at l h)
 
-  pub worth-is : worthIn weights numbers n ≡ worthBy n (number weights) (groupIn groups) (runIn runs)
-  unfolding worthIn worthBy
-  worth-is = sum-ext n _ _ (λ i h. ap (λ x. w i *ℤ x) (number-is i h))
+  pub objective-is : objectiveIn weights numbers n ≡ objectiveBy n (number weights) (labelIn labels) (runIn runs)
+  unfolding objectiveIn objectiveBy
+  objective-is = sum-ext n _ _ (λ i h. ap (λ x. w i *ℤ x) (number-is i h))
 
-  pub agree : Agree (findingsIn groups runs gains numbers n (worthIn weights numbers n)) (findingsBy n (number weights) (groupIn groups) (runIn runs))
+  pub agree : Agree (findingsIn labels runs slopes numbers n (objectiveIn weights numbers n)) (findingsBy n (number weights) (labelIn labels) (runIn runs))
   agree = record {
     variables = refl;
     leading = refl;
@@ -50,6 +50,6 @@ module _ (weights : List ℤ) (groups : List ℕ) (runs : List Run) (n : ℕ) (l
     values = number-is;
     many = λ l h. refl;
     choices = λ l h. chosen-is l (leads-below g n l h);
-    gains = λ l h. sums .at l (leads-below g n l h);
-    total = worth-is;
+    slopes = λ l h. sums .at l (leads-below g n l h);
+    total = objective-is;
   }

@@ -3,7 +3,7 @@
 -- the rows of a sheet, one behind the other
 pub mod SheetRows
 -- the number that is chosen for a variable
-pub mod Choosing
+pub mod ChosenNumber
 -- weights times numbers, added up
 pub mod WeightedSums
 -- what is found in the arrays is what the model finds

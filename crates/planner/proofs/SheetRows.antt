@@ -11,8 +11,8 @@ use Rattle.lists.proofs.Maps.{flatMap-same, flatMap-both}
 use Rattle.lists.proofs.Table.{table-next, in-upTo}
 use Rattle.runs.specs.declared.Run.{Run}
 use Rattle.jobs.specs.Sheet.{sheetVariable, sheetGroup, sheetVariables, sheetGroups}
-use Rattle.families.specs.Plan.{leadsBy}
-use Rattle.solver.proofs.Leads.{leads-none, leads-yes, leads-no}
+use Rattle.families.specs.ModelFindings.{leadsBy}
+use Rattle.solver.proofs.LowestVariables.{leads-none, leads-yes, leads-no}
 use Rattle.bytes.specs.Over.{over}
 use Rattle.bytes.proofs.Over.{over-over, length-over}
 
@@ -48,18 +48,18 @@ unfolding sheetVariables
 variables-same x r group group′ n e = flatMap-same (row x r group) (row x r group′) (upTo n) (λ i m. ap (sheetVariable (x i) (r i)) (e i (in-upTo n i .0 m)))
 
 -- ---- the groups' rows, one variable after the other
-module _ (g : ℕ → ℕ) (r : ℕ → Run) (k : ℕ → ℕ) (gain : ℕ → ℤ) where
+module _ (g : ℕ → ℕ) (r : ℕ → Run) (k : ℕ → ℕ) (slope : ℕ → ℤ) where
   abbrev rowOf : ℕ → List ℕ
-  rowOf l = sheetGroup (r l .many) (k l) (gain l)
+  rowOf l = sheetGroup (r l .many) (k l) (slope l)
 
-  pub groups-none : sheetGroups r k gain (leadsBy g 0) ≡ []
+  pub groups-none : sheetGroups r k slope (leadsBy g 0) ≡ []
   unfolding sheetGroups
   groups-none = ap (flatMap rowOf) (leads-none g)
 
-  pub groups-yes : (i : ℕ) → g i ≡ i → sheetGroups r k gain (leadsBy g i) ++ sheetGroup (r i .many) (k i) (gain i) ≡ sheetGroups r k gain (leadsBy g (i + 1))
+  pub groups-yes : (i : ℕ) → g i ≡ i → sheetGroups r k slope (leadsBy g i) ++ sheetGroup (r i .many) (k i) (slope i) ≡ sheetGroups r k slope (leadsBy g (i + 1))
   unfolding sheetGroups
   groups-yes i e = sym (ap (flatMap rowOf) (leads-yes g i e) ∙ flatMap-both rowOf (leadsBy g i) (i ∷ []) ∙ ap (λ t. flatMap rowOf (leadsBy g i) ++ t) (one rowOf i))
 
-  pub groups-no : (i : ℕ) → g i ≢ i → sheetGroups r k gain (leadsBy g i) ≡ sheetGroups r k gain (leadsBy g (i + 1))
+  pub groups-no : (i : ℕ) → g i ≢ i → sheetGroups r k slope (leadsBy g i) ≡ sheetGroups r k slope (leadsBy g (i + 1))
   unfolding sheetGroups
   groups-no i d = sym (ap (flatMap rowOf) (leads-no g i d))

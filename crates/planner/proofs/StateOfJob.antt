@@ -18,16 +18,16 @@ use Rattle.jobs.specs.Verdict.{firstWithout}
 use Rattle.jobs.specs.Sheet.{laidOut}
 use Rattle.jobs.proofs.Components.{in-leads, lowest-le, lowest-self}
 use Rattle.jobs.proofs.Assembly.{without-iff}
-use Rattle.jobs.proofs.Fields.{Agree, same-layout}
+use Rattle.jobs.proofs.SheetFields.{Agree, same-layout}
 use Rattle.families.specs.FamilyRun.{FamilyRun}
-use Rattle.families.specs.Plan.{leadsBy, findingsBy}
-use Rattle.families.proofs.Exact.{family-run-is, family-form}
-use Rattle.families.proofs.Planned.{leads-by, findings-by}
+use Rattle.families.specs.ModelFindings.{leadsBy, findingsBy}
+use Rattle.families.proofs.ModelIsExact.{family-run-is, family-form}
+use Rattle.families.proofs.ModelFindings.{leads-by, findings-by}
 use Rattle.solver.specs.declared.State.{State}
-use Rattle.solver.specs.Arrays.{groupIn, runIn}
+use Rattle.solver.specs.StateArrays.{labelIn, runIn}
 use Rattle.solver.specs.Families.{Families}
-use Rattle.solver.specs.Bounds.{WeightsOf}
-use Rattle.solver.specs.Groups.{Lowest}
+use Rattle.solver.specs.VariableArrays.{WeightsOf}
+use Rattle.solver.specs.Labels.{Lowest}
 use Rattle.bytes.specs.Over.{over}
 use Rattle.planner.specs.Choice.{Members, NoneEmpty}
 use Rattle.bytes.proofs.Over.{over-all}
@@ -36,38 +36,38 @@ module _ (j : Job) (lawful : LawfulJob j) (x : State) (f : Families j x) where
   abbrev n : ℕ
   n = length (j .variables)
 
-  pub told : (i : ℕ) → i < length (j .variables) → (groupIn (x .groups) i ≡ lowest j i) × (runIn (x .runs) i ≡ familyRun j i)
-  told i h = (f .group i h, f .run i h)
+  pub told : (i : ℕ) → i < length (j .variables) → (labelIn (x .labels) i ≡ lowest j i) × (runIn (x .runs) i ≡ familyRun j i)
+  told i h = (f .label i h, f .run i h)
 
   -- how many there are of a variable: the fits of its group
   many : (i : ℕ) → i < n → runIn (x .runs) i .many ≡ fits (componentJob j (lowest j i))
   many i h = ap (λ t. t .many) (f .run i h ∙ family-run-is j i)
 
   -- as many as of the lowest variable of its group
-  lowest-many : (i : ℕ) → i < n → runIn (x .runs) i .many ≡ runIn (x .runs) (groupIn (x .groups) i) .many
+  lowest-many : (i : ℕ) → i < n → runIn (x .runs) i .many ≡ runIn (x .runs) (labelIn (x .labels) i) .many
   lowest-many i h =
       many i h
       ∙ ap (λ l. fits (componentJob j l)) (sym (lowest-self j i))
-      ∙ sym (ap (λ l. runIn (x .runs) l .many) (f .group i h) ∙ many (lowest j i) (omega (arith, h, lowest-le j i)))
+      ∙ sym (ap (λ l. runIn (x .runs) l .many) (f .label i h) ∙ many (lowest j i) (omega (arith, h, lowest-le j i)))
 
-  pub labels : Lowest (x .groups) (length (j .variables))
+  pub labels : Lowest (x .labels) (length (j .variables))
   labels = record {
-    low = λ i h. omega (arith, f .group i h, lowest-le j i);
+    low = λ i h. omega (arith, f .label i h, lowest-le j i);
     self = λ i h.
-        ap (groupIn (x .groups)) (f .group i h)
-        ∙ f .group (lowest j i) (omega (arith, h, lowest-le j i))
+        ap (labelIn (x .labels)) (f .label i h)
+        ∙ f .label (lowest j i) (omega (arith, h, lowest-le j i))
         ∙ lowest-self j i
-        ∙ sym (f .group i h);
+        ∙ sym (f .label i h);
   }
 
-  pub members : Members (x .groups) (x .runs) (length (j .variables))
+  pub members : Members (x .labels) (x .runs) (length (j .variables))
   members = record {
     form = record { at = λ i h. subst FamilyRun (sym (f .run i h ∙ family-run-is j i)) (family-form j lawful i h) };
     many = lowest-many;
   }
 
-  pub counted : componentCount j ≡ length (leadsBy (groupIn (x .groups)) (length (j .variables)))
-  counted = sym (ap length (leads-by j lawful (groupIn (x .groups)) (runIn (x .runs)) told))
+  pub counted : componentCount j ≡ length (leadsBy (labelIn (x .labels)) (length (j .variables)))
+  counted = sym (ap length (leads-by j lawful (labelIn (x .labels)) (runIn (x .runs)) told))
 
   -- ---- the first group without a solution
   lead-many : (l : ℕ) → l ∈ leads j → fits (componentJob j l) ≡ runIn (x .runs) l .many
@@ -83,7 +83,7 @@ module _ (j : Job) (lawful : LawfulJob j) (x : State) (f : Families j x) where
           go : Dec (lowest j l ≡ l) → lowest j l ≡ l
           go (yes q) = q
           go (no d) =
-              let q : runIn (x .runs) (lowest j l) .many ≡ 0 = ap (λ i. runIn (x .runs) i .many) (sym (f .group l h)) ∙ sym (lowest-many l h) ∙ k in
+              let q : runIn (x .runs) (lowest j l) .many ≡ 0 = ap (λ i. runIn (x .runs) i .many) (sym (f .label l h)) ∙ sym (lowest-many l h) ∙ k in
               absurd (omega (arith, b .at (lowest j l) (omega (arith, d, lowest-le j l)), q))
 
       lead : l ∈ leads j
@@ -99,13 +99,13 @@ module _ (j : Job) (lawful : LawfulJob j) (x : State) (f : Families j x) where
   -- ---- what is found of them is what the definitions find
   module _ {k : ℕ} (e : k ≡ length (j .variables)) (weights : List ℤ) (ws : WeightsOf j k weights) (some-fit : NoneEmpty (x .runs) k) where
     abbrev found-in : ℕ → Findings
-    found-in k = findingsBy k (number weights) (groupIn (x .groups)) (runIn (x .runs))
+    found-in k = findingsBy k (number weights) (labelIn (x .labels)) (runIn (x .runs))
 
     same : Agree (found-in n) (findings j)
-    same = findings-by j lawful (groupIn (x .groups)) (runIn (x .runs)) told (number weights) (subst (λ k. WeightsOf j k weights) e ws .at) (full (subst (NoneEmpty (x .runs)) e some-fit))
+    same = findings-by j lawful (labelIn (x .labels)) (runIn (x .runs)) told (number weights) (subst (λ k. WeightsOf j k weights) e ws .at) (full (subst (NoneEmpty (x .runs)) e some-fit))
 
-    pub worth-best : findingsBy k (number weights) (groupIn (x .groups)) (runIn (x .runs)) .worth ≡ objective j (best j)
-    worth-best = ap (λ k. found-in k .worth) e ∙ same .total
+    pub objective-best : findingsBy k (number weights) (labelIn (x .labels)) (runIn (x .runs)) .objective ≡ objective j (best j)
+    objective-best = ap (λ k. found-in k .objective) e ∙ same .total
 
-    pub area-best : (a : List ℕ) → over 0 (laidOut (findingsBy k (number weights) (groupIn (x .groups)) (runIn (x .runs)))) a ≡ laidOut (findings j) ++ drop (length (laidOut (findings j))) a
+    pub area-best : (a : List ℕ) → over 0 (laidOut (findingsBy k (number weights) (labelIn (x .labels)) (runIn (x .runs)))) a ≡ laidOut (findings j) ++ drop (length (laidOut (findings j))) a
     area-best a = ap (λ k. over 0 (laidOut (found-in k)) a) e ∙ ap (λ b. over 0 b a) (same-layout same) ∙ over-all (laidOut (findings j)) a

@@ -11,7 +11,7 @@ use Rattle.ints.proofs.{ℤ, _+ℤ_, _*ℤ_, [], _∷_, arith, lin, _&_, facts,
 use Rattle.ints.proofs.Signed.{held}
 use Rattle.lists.specs.Sums.{sum, pick, sumOf}
 use Rattle.lists.proofs.Sums.{sum-within}
-use Rattle.solver.proofs.Sizes.{fits}
+use Rattle.solver.proofs.In64Bits.{fits}
 
 -- ---- one product more. The locals hold s′, w′ and x′; a product is at most 2,000,000,000,000,000 in size.
 module _ {s w x s′ w′ x′ : ℤ} (p : s′ ≡ s) (q : w′ ≡ w) (r : x′ ≡ x) (a : Within 1000000 w) (b : Within 2000000000 x) (c : Within 600000000000000000 s) where

@@ -10,8 +10,8 @@ use Rattle.jobs.specs.Solution.{number}
 use Rattle.jobs.specs.Findings.{Findings}
 use Rattle.families.specs.FamilyRun.{FamilyRun}
 use Rattle.families.specs.Family.{choice}
-use Rattle.families.specs.Plan.{leadsBy, componentBy}
-use Rattle.solver.specs.Arrays.{groupIn, runIn}
+use Rattle.families.specs.ModelFindings.{leadsBy, componentBy}
+use Rattle.solver.specs.StateArrays.{labelIn, runIn}
 use Rattle.planner.specs.declared.choose.Found.{Found}
 use Rattle.planner.specs.declared.choose.Found.the-variants.{At, Nothing}
 
@@ -21,9 +21,9 @@ pub record FamilyRuns (runs : List Run) (n : ℕ) : Type 0 where
   pub at : (i : ℕ) → i < n → FamilyRun (runIn runs i)
 
 -- and in that of its group, which has as many members for all of them
-pub record Members (groups : List ℕ) (runs : List Run) (n : ℕ) : Type 0 where
+pub record Members (labels : List ℕ) (runs : List Run) (n : ℕ) : Type 0 where
   pub form : FamilyRuns runs n
-  pub many : (i : ℕ) → i < n → runIn runs i .many ≡ runIn runs (groupIn groups i) .many
+  pub many : (i : ℕ) → i < n → runIn runs i .many ≡ runIn runs (labelIn labels i) .many
 
 -- and no family is empty, where every group has a fit-out
 pub record NoneEmpty (runs : List Run) (n : ℕ) : Type 0 where
@@ -41,29 +41,29 @@ FirstEmpty runs n Nothing = NoneEmpty runs n
 
 -- a variable's number, where a step along its group's family gains so much
 abbrev pub numberAt : Run → ℤ → ℤ
-numberAt run gain = run .first +ℤ run .step *ℤ pos (choice gain (run .many))
+numberAt run slope = run .first +ℤ run .step *ℤ pos (choice slope (run .many))
 
 abbrev pub numberIn : List ℕ → List Run → List ℤ → ℕ → ℤ
-numberIn groups runs gains i = numberAt (runIn runs i) (number gains (groupIn groups i))
+numberIn labels runs slopes i = numberAt (runIn runs i) (number slopes (labelIn labels i))
 
 -- what numbers are worth
-unfoldable pub worthIn : List ℤ → List ℤ → ℕ → ℤ
+unfoldable pub objectiveIn : List ℤ → List ℤ → ℕ → ℤ
 unfolding sum
-worthIn weights numbers n = sum n (λ i. number weights i *ℤ number numbers i)
+objectiveIn weights numbers n = sum n (λ i. number weights i *ℤ number numbers i)
 
 -- the index of the member that is chosen in the group of l
 abbrev pub chosenIn : List Run → List ℤ → ℕ → ℕ
-chosenIn runs gains l = choice (number gains l) (runIn runs l .many)
+chosenIn runs slopes l = choice (number slopes l) (runIn runs l .many)
 
 -- all that is found
 abbrev pub findingsIn : List ℕ → List Run → List ℤ → List ℤ → ℕ → ℤ → Findings
-findingsIn groups runs gains numbers n worth = record {
+findingsIn labels runs slopes numbers n objective = record {
   n = n;
-  leaders = leadsBy (groupIn groups) n;
-  group = componentBy (groupIn groups) n;
+  leads = leadsBy (labelIn labels) n;
+  component = componentBy (labelIn labels) n;
   run = runIn runs;
   assigned = number numbers;
-  index = chosenIn runs gains;
-  gain = number gains;
-  worth = worth;
+  chosen = chosenIn runs slopes;
+  slope = number slopes;
+  objective = objective;
 }

@@ -5,6 +5,6 @@ pub use Rattle.planner.specs.declared.Outcome.{Outcome}
 use Rattle.planner.specs.declared.Outcome.the-variants.{Planned, NoFit, Refused}
 
 abbrev pub verdictOf : Outcome → Verdict
-verdictOf (Planned worth) = planned worth
+verdictOf (Planned objective) = planned objective
 verdictOf (NoFit l) = noFit l
 verdictOf (Refused r) = refused (numberOf r) (rowOf r)

@@ -7,10 +7,10 @@ ghost use Rattle.lists.specs.Table.{Tabulates};
 ghost use Rattle.jobs.specs.Solution.{number};
 ghost use Rattle.families.specs.FamilyRun.{FamilyRun};
 ghost use Rattle.families.specs.Family.{choice};
-ghost use Rattle.families.specs.Plan.{gainBy};
-ghost use Rattle.solver.specs.Arrays.{groupIn, runIn};
-ghost use Rattle.solver.specs.Groups.{Labelled};
-ghost use Rattle.planner.specs.Choice.{FamilyRuns, NoneEmpty, AllWithin, FirstEmpty, numberAt, numberIn, worthIn};
+ghost use Rattle.families.specs.ModelFindings.{slopeBy};
+ghost use Rattle.solver.specs.StateArrays.{labelIn, runIn};
+ghost use Rattle.solver.specs.Labels.{Labelled};
+ghost use Rattle.planner.specs.Choice.{FamilyRuns, NoneEmpty, AllWithin, FirstEmpty, numberAt, numberIn, objectiveIn};
 use runs::Run;
 
 /// The first group without a fit, by its lowest variable, or that there is none.
@@ -38,65 +38,65 @@ pub(crate) fn first_empty(runs: [Run; 256], n: usize) -> Found
 }
 
 // The gain of each group, at its lowest variable: what a step along its family adds to the worth.
-pub(crate) fn gains(
+pub(crate) fn slopes(
     weights: [i64; 256],
-    groups: [u16; 256],
+    labels: [u16; 256],
     runs: [Run; 256],
     n: usize,
 ) -> [i64; 256]
     requires { ⌜ n ≤ 256 ⌝ }
     requires { ⌜ AllWithin 1000000 weights n ⌝ }
-    requires { ⌜ Labelled groups n ⌝ }
+    requires { ⌜ Labelled labels n ⌝ }
     requires { ⌜ FamilyRuns runs n ⌝ }
-    ensures { λ r. ⌜ Tabulates (pos 0) (gainBy n (number weights) (groupIn groups) (runIn runs)) n r ⌝ }
+    ensures { λ r. ⌜ Tabulates (pos 0) (slopeBy n (number weights) (labelIn labels) (runIn runs)) n r ⌝ }
 {
-    let mut gains: [i64; 256] = [0; 256];
+    let mut slopes: [i64; 256] = [0; 256];
     let mut i: usize = 0;
     while i < n {
         let run = runs[i];
-        let l = groups[i] as usize;
-        gains[l] = gains[l] + weights[i] * run.step;
+        let l = labels[i] as usize;
+        slopes[l] = slopes[l] + weights[i] * run.step;
         i += 1;
     }
-    gains
+    slopes
 }
 
 // The index of the member that is chosen: the last where each step gains, and the first elsewhere.
-pub(crate) fn choice(gain: i64, many: u32) -> u32
+pub(crate) fn choice(slope: i64, many: u32) -> u32
     requires { ⌜ 1 ≤ many ⌝ }
-    ensures { λ r. ⌜ r ≡ choice gain many ⌝ }
+    ensures { λ r. ⌜ r ≡ choice slope many ⌝ }
 {
-    if 0 < gain { many - 1 } else { 0 }
+    if 0 < slope { many - 1 } else { 0 }
 }
 
 // A variable's number in the member that is chosen.
-fn number(run: Run, gain: i64) -> i64
+fn number(run: Run, slope: i64) -> i64
     requires { ⌜ FamilyRun run ⌝ }
     requires { ⌜ 1 ≤ run .many ⌝ }
-    ensures { λ r. ⌜ r ≡ numberAt run gain ⌝ }
+    ensures { λ r. ⌜ r ≡ numberAt run slope ⌝ }
 {
-    run.first + run.step * choice(gain, run.many) as i64
+    run.first + run.step * choice(slope, run.many) as i64
 }
 
 // The number of each of n variables.
 pub(crate) fn numbers(
-    groups: [u16; 256],
+    labels: [u16; 256],
     runs: [Run; 256],
-    gains: [i64; 256],
+    slopes: [i64; 256],
     n: usize,
 ) -> [i64; 256]
     requires { ⌜ n ≤ 256 ⌝ }
-    requires { ⌜ Labelled groups n ⌝ }
+    requires { ⌜ Labelled labels n ⌝ }
     requires { ⌜ FamilyRuns runs n ⌝ }
     requires { ⌜ NoneEmpty runs n ⌝ }
-    ensures { λ r. ⌜ Tabulates (pos 0) (numberIn groups runs gains) n r ⌝ }
+    ensures { λ r. ⌜ Tabulates (pos 0) (numberIn labels runs slopes) n r ⌝ }
 {
     let mut numbers: [i64; 256] = [0; 256];
     let mut i: usize = 0;
     while i < n {
         let run = runs[i];
-        let l = groups[i] as usize;
-        let x = number(run, gains[l]);
+        let l = labels[i] as usize;
+        let x = number(run, slopes[l]);
         numbers[i] = x;
         i += 1;
     }
@@ -104,17 +104,17 @@ pub(crate) fn numbers(
 }
 
 // What these numbers are worth.
-pub(crate) fn worth(weights: [i64; 256], numbers: [i64; 256], n: usize) -> i64
+pub(crate) fn objective(weights: [i64; 256], numbers: [i64; 256], n: usize) -> i64
     requires { ⌜ n ≤ 256 ⌝ }
     requires { ⌜ AllWithin 1000000 weights n ⌝ }
     requires { ⌜ AllWithin 2000000000 numbers n ⌝ }
-    ensures { λ r. ⌜ r ≡ worthIn weights numbers n ⌝ }
+    ensures { λ r. ⌜ r ≡ objectiveIn weights numbers n ⌝ }
 {
-    let mut worth: i64 = 0;
+    let mut objective: i64 = 0;
     let mut i: usize = 0;
     while i < n {
-        worth = worth + weights[i] * numbers[i];
+        objective = objective + weights[i] * numbers[i];
         i += 1;
     }
-    worth
+    objective
 }

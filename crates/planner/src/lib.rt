@@ -11,9 +11,9 @@ ghost use Rattle.jobs.specs.Faults.{accepted, checked};
 ghost use Rattle.jobs.specs.Verdict.{planned, verdict};
 ghost use Rattle.jobs.specs.Sheet.{laidOut, sheet};
 ghost use Rattle.jobs.specs.Demands.{TurnsAway, GivesFits, CannotBeBettered};
-ghost use Rattle.families.specs.Plan.{leadsBy, findingsBy};
-ghost use Rattle.solver.specs.Arrays.{groupIn, runIn};
-ghost use Rattle.solver.specs.Groups.{Lowest};
+ghost use Rattle.families.specs.ModelFindings.{leadsBy, findingsBy};
+ghost use Rattle.solver.specs.StateArrays.{labelIn, runIn};
+ghost use Rattle.solver.specs.Labels.{Lowest};
 ghost use Rattle.bytes.specs.Over.{over};
 ghost use Rattle.planner.specs.Choice.{Members, NoneEmpty, AllWithin};
 ghost use Rattle.planner.specs.Outcome.{verdictOf};
@@ -22,8 +22,8 @@ use jobs::Checked;
 use jobs::header;
 use reasons::Reason;
 use solver::State;
+use solver::components;
 use solver::equations;
-use solver::groups;
 use solver::variables;
 
 // the choice in each group
@@ -66,8 +66,8 @@ fn fitted(job: &[u8], area: &mut [u8]) -> Outcome
 {
     let n = header::variable_count(job);
     let m = header::equation_count(job);
-    let lowest = groups::lowest(job, n, m);
-    let g = groups::count(lowest, n);
+    let lowest = components::lowest(job, n, m);
+    let g = components::count(lowest, n);
     if area.len() < sheet::length(n, g) {
         return Outcome::Refused(Reason::ShortArea);
     }
@@ -87,19 +87,19 @@ fn fitted(job: &[u8], area: &mut [u8]) -> Outcome
 fn written(area: &mut [u8], weights: [i64; 256], state: State, n: usize, g: usize) -> Outcome
     requires { ⌜ n ≤ 256 ⌝ }
     requires { ⌜ AllWithin 1000000 weights n ⌝ }
-    requires { ⌜ Lowest (state .groups) n ⌝ }
-    requires { ⌜ Members (state .groups) (state .runs) n ⌝ }
+    requires { ⌜ Lowest (state .labels) n ⌝ }
+    requires { ⌜ Members (state .labels) (state .runs) n ⌝ }
     requires { ⌜ NoneEmpty (state .runs) n ⌝ }
-    requires { ⌜ g ≡ length (leadsBy (groupIn (state .groups)) n) ⌝ }
+    requires { ⌜ g ≡ length (leadsBy (labelIn (state .labels)) n) ⌝ }
     requires { ⌜ 24 + 16 * n + 16 * g ≤ length (now area) ⌝ }
-    ensures { λ r. ⌜ verdictOf r ≡ planned (findingsBy n (number weights) (groupIn (state .groups)) (runIn (state .runs)) .worth) ⌝ }
-    ensures { λ _. ⌜ now (area .exit) ≡ over 0 (laidOut (findingsBy n (number weights) (groupIn (state .groups)) (runIn (state .runs)))) (now (area .entry)) ⌝ }
+    ensures { λ r. ⌜ verdictOf r ≡ planned (findingsBy n (number weights) (labelIn (state .labels)) (runIn (state .runs)) .objective) ⌝ }
+    ensures { λ _. ⌜ now (area .exit) ≡ over 0 (laidOut (findingsBy n (number weights) (labelIn (state .labels)) (runIn (state .runs)))) (now (area .entry)) ⌝ }
 {
-    let groups = state.groups;
+    let labels = state.labels;
     let runs = state.runs;
-    let gains = choose::gains(weights, groups, runs, n);
-    let numbers = choose::numbers(groups, runs, gains, n);
-    let worth = choose::worth(weights, numbers, n);
-    sheet::write(area, groups, runs, gains, numbers, n, g, worth);
-    Outcome::Planned(worth)
+    let slopes = choose::slopes(weights, labels, runs, n);
+    let numbers = choose::numbers(labels, runs, slopes, n);
+    let objective = choose::objective(weights, numbers, n);
+    sheet::write(area, labels, runs, slopes, numbers, n, g, objective);
+    Outcome::Planned(objective)
 }

@@ -8,14 +8,14 @@ ghost use Rattle.jobs.specs.Solution.{number};
 ghost use Rattle.jobs.specs.Sheet.{answerMark, sheetHeader, sheetVariable, sheetGroup, sheetVariables, sheetGroups, laidOut};
 ghost use Rattle.families.specs.FamilyRun.{FamilyRun};
 ghost use Rattle.families.specs.Family.{choice};
-ghost use Rattle.families.specs.Plan.{leadsBy};
-ghost use Rattle.solver.specs.Arrays.{groupIn, runIn};
-ghost use Rattle.solver.specs.Groups.{Lowest};
+ghost use Rattle.families.specs.ModelFindings.{leadsBy};
+ghost use Rattle.solver.specs.StateArrays.{labelIn, runIn};
+ghost use Rattle.solver.specs.Labels.{Lowest};
 ghost use Rattle.bytes.specs.Over.{over};
 ghost use Rattle.planner.specs.Choice.{FamilyRuns, Members, NoneEmpty, AllWithin, chosenIn, findingsIn};
 use crate::choose;
 use runs::Run;
-use solver::groups;
+use solver::components;
 
 // The mark of a sheet.
 const MARK: [u8; 4] = *b"ANS1";
@@ -32,42 +32,42 @@ pub(crate) fn length(n: usize, g: usize) -> usize
 // All of it, for n variables in g groups. What lies behind it stays.
 pub(crate) fn write(
     area: &mut [u8],
-    groups: [u16; 256],
+    labels: [u16; 256],
     runs: [Run; 256],
-    gains: [i64; 256],
+    slopes: [i64; 256],
     numbers: [i64; 256],
     n: usize,
     g: usize,
-    worth: i64,
+    objective: i64,
 )
     requires { ⌜ n ≤ 256 ⌝ }
-    requires { ⌜ Lowest groups n ⌝ }
-    requires { ⌜ Members groups runs n ⌝ }
+    requires { ⌜ Lowest labels n ⌝ }
+    requires { ⌜ Members labels runs n ⌝ }
     requires { ⌜ NoneEmpty runs n ⌝ }
     requires { ⌜ AllWithin 1000000000 numbers n ⌝ }
-    requires { ⌜ g ≡ length (leadsBy (groupIn groups) n) ⌝ }
+    requires { ⌜ g ≡ length (leadsBy (labelIn labels) n) ⌝ }
     requires { ⌜ 24 + 16 * n + 16 * g ≤ length (now area) ⌝ }
-    ensures { λ _. ⌜ now (area .exit) ≡ over 0 (laidOut (findingsIn groups runs gains numbers n worth)) (now (area .entry)) ⌝ }
+    ensures { λ _. ⌜ now (area .exit) ≡ over 0 (laidOut (findingsIn labels runs slopes numbers n objective)) (now (area .entry)) ⌝ }
 {
-    let components = groups::numbers(groups, n);
-    header(area, n, g, worth);
+    let components = components::numbers(labels, n);
+    header(area, n, g, objective);
     variables(area, runs, numbers, components, n);
     let rows = 24 + 16 * n;
-    group_rows(&mut area[rows..], groups, runs, gains, n);
+    group_rows(&mut area[rows..], labels, runs, slopes, n);
 }
 
-fn header(area: &mut [u8], n: usize, g: usize, worth: i64)
+fn header(area: &mut [u8], n: usize, g: usize, objective: i64)
     requires { ⌜ n ≤ 256 ⌝ }
     requires { ⌜ g ≤ 256 ⌝ }
     requires { ⌜ 24 ≤ length (now area) ⌝ }
-    ensures { λ _. ⌜ now (area .exit) ≡ over 0 (sheetHeader n g worth) (now (area .entry)) ⌝ }
+    ensures { λ _. ⌜ now (area .exit) ≡ over 0 (sheetHeader n g objective) (now (area .entry)) ⌝ }
 {
     mark(area);
     bytes::put(area, 4, 2, n as u64);
     bytes::put(area, 6, 2, g as u64);
     bytes::put(area, 8, 4, 24);
     bytes::put(area, 12, 4, 24 + 16 * n as u64);
-    bytes::put_i64(area, 16, worth);
+    bytes::put_i64(area, 16, objective);
 }
 
 fn mark(area: &mut [u8])
@@ -117,29 +117,29 @@ fn variables(
 }
 
 // The row of a group, from a place on.
-fn group(area: &mut [u8], at: usize, many: u32, gain: i64)
+fn group(area: &mut [u8], at: usize, many: u32, slope: i64)
     requires { ⌜ at + 16 ≤ length (now area) ⌝ }
     requires { ⌜ 1 ≤ many ⌝ }
-    ensures { λ _. ⌜ now (area .exit) ≡ over at (sheetGroup many (choice gain many) gain) (now (area .entry)) ⌝ }
+    ensures { λ _. ⌜ now (area .exit) ≡ over at (sheetGroup many (choice slope many) slope) (now (area .entry)) ⌝ }
 {
     bytes::put(area, at, 4, many as u64);
-    bytes::put(area, at + 4, 4, choose::choice(gain, many) as u64);
-    bytes::put_i64(area, at + 8, gain);
+    bytes::put(area, at + 4, 4, choose::choice(slope, many) as u64);
+    bytes::put_i64(area, at + 8, slope);
 }
 
 // The rows of the groups of n variables, into the part of the answer area that they fill.
-fn group_rows(part: &mut [u8], groups: [u16; 256], runs: [Run; 256], gains: [i64; 256], n: usize)
+fn group_rows(part: &mut [u8], labels: [u16; 256], runs: [Run; 256], slopes: [i64; 256], n: usize)
     requires { ⌜ n ≤ 256 ⌝ }
-    requires { ⌜ 16 * length (leadsBy (groupIn groups) n) ≤ length (now part) ⌝ }
+    requires { ⌜ 16 * length (leadsBy (labelIn labels) n) ≤ length (now part) ⌝ }
     requires { ⌜ NoneEmpty runs n ⌝ }
-    ensures { λ _. ⌜ now (part .exit) ≡ over 0 (sheetGroups (runIn runs) (chosenIn runs gains) (number gains) (leadsBy (groupIn groups) n)) (now (part .entry)) ⌝ }
+    ensures { λ _. ⌜ now (part .exit) ≡ over 0 (sheetGroups (runIn runs) (chosenIn runs slopes) (number slopes) (leadsBy (labelIn labels) n)) (now (part .entry)) ⌝ }
 {
     let mut at: usize = 0;
     let mut i: usize = 0;
     while i < n {
-        if groups[i] as usize == i {
+        if labels[i] as usize == i {
             let run = runs[i];
-            group(part, at, run.many, gains[i]);
+            group(part, at, run.many, slopes[i]);
             at += 16;
         }
         i += 1;

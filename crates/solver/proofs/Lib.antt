@@ -1,22 +1,22 @@
 -- The laws that the proofs of the functions go by.
 
 -- two labels that become one
-pub mod Merging
+pub mod MergedLabels
 -- whether an equation joins two sets
-pub mod Joining
+pub mod JoinTest
 -- the lowest variables of the groups, one after the other
-pub mod Leads
+pub mod LowestVariables
 -- 64 bits hold what is made of the numbers of a family
-pub mod Sizes
+pub mod In64Bits
 -- how large the numbers are through which an equation between two families goes
-pub mod Meeting
+pub mod JoinWidths
 -- the arrays follow the model
-pub mod Stepping
+pub mod CodeFollowsModel
 -- a job with its own bounds
 pub mod OwnBounds
 -- the rows of a lawful job
-pub mod Rows
+pub mod LawfulRows
 -- the arrays follow the model, for bytes and bounds
-pub mod Following
+pub mod FollowsWithBounds
 -- a job that the check accepts
-pub mod Accepting
+pub mod AcceptedJob

@@ -10,7 +10,7 @@ use Rattle.jobs.specs.Lawful.{LawfulJob}
 use Rattle.jobs.specs.declared.Bounds.{Bounds}
 use Rattle.jobs.specs.Bounds.{withBounds, BoundedBy}
 use Rattle.jobs.proofs.WithBounds.{same-length, same-equations, variable-with}
-use Rattle.solver.specs.Bounds.{BoundsOf}
+use Rattle.solver.specs.VariableArrays.{BoundsOf}
 
 module _ (j : Job) (bounds : List Bounds) (b : BoundsOf j (length (j .variables)) bounds) where
   pub own-bounds : withBounds j bounds ≡ j

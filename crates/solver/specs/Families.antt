@@ -5,11 +5,11 @@ use lib.ListN.{length}
 use Rattle.jobs.specs.Job.{Job}
 use Rattle.jobs.specs.Component.{lowest}
 use Rattle.jobs.specs.Family.{familyRun}
-use Rattle.solver.specs.Arrays.{groupIn, runIn}
+use Rattle.solver.specs.StateArrays.{labelIn, runIn}
 use Rattle.solver.specs.declared.State.{State}
 
 -- each variable's group, by its lowest variable, and its base, step and fits, as the definitions read them off the list of
 -- all solutions of the group
 pub record Families (j : Job) (s : State) : Type 0 where
-  pub group : (i : ℕ) → i < length (j .variables) → groupIn (s .groups) i ≡ lowest j i
+  pub label : (i : ℕ) → i < length (j .variables) → labelIn (s .labels) i ≡ lowest j i
   pub run : (i : ℕ) → i < length (j .variables) → runIn (s .runs) i ≡ familyRun j i

@@ -1,13 +1,13 @@
 -- What the contracts of the solver cite. Read in this order.
 
 -- what the arrays of the state say
-pub mod Arrays
+pub mod StateArrays
 -- what is promised of the state: each variable's group and family
 pub mod Families
 -- the variables' rows in arrays, and what the variables begin with
-pub mod Bounds
+pub mod VariableArrays
 -- groups as a list of labels
-pub mod Groups
+pub mod Labels
 -- what the program's enums and structs of one step say
 pub mod Steps
 -- how large the numbers are

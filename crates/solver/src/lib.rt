@@ -11,7 +11,7 @@ mod cycle;
 // an equation between two groups
 mod join;
 // groups, by their lowest variables
-pub mod groups;
+pub mod components;
 // the variables' rows
 pub mod variables;
 // where every variable begins
@@ -26,6 +26,6 @@ pub mod equations;
 /// a step may be negative, but that of the group's lowest variable is not. With two or more members no step is 0, with one every
 /// step is, and a group that no numbers fit is 0, 0, 0 throughout.
 pub struct State {
-    pub groups: [u16; 256],
+    pub labels: [u16; 256],
     pub runs: [Run; 256],
 }

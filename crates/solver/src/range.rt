@@ -4,7 +4,7 @@ ghost use mathlib.Core.Path.{_≡_};
 ghost use Prim.Native.Nat.{_≤_};
 ghost use Rattle.families.specs.Model.{interval};
 ghost use Rattle.jobs.specs.Bounds.{Bounded, BoundedBy};
-ghost use Rattle.solver.specs.Bounds.{Begins};
+ghost use Rattle.solver.specs.VariableArrays.{Begins};
 use jobs::Bounds;
 use runs::Run;
 

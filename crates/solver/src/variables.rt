@@ -2,7 +2,7 @@
 
 ghost use mathlib.Core.Path.{_≡_};
 ghost use Rattle.jobs.specs.Job.{jobOf, RowsInside, variableCount};
-ghost use Rattle.solver.specs.Bounds.{BoundsOf, WeightsOf};
+ghost use Rattle.solver.specs.VariableArrays.{BoundsOf, WeightsOf};
 use jobs::Bounds;
 use jobs::Variable;
 

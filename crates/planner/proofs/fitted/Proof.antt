@@ -13,14 +13,14 @@ use Rattle.jobs.specs.Component.{componentCount}
 use Rattle.jobs.specs.Verdict.{planned}
 use Rattle.jobs.proofs.Components.{length-leads}
 use Rattle.solver.specs.declared.State.{State}
-use Rattle.solver.specs.Arrays.{groupIn}
+use Rattle.solver.specs.StateArrays.{labelIn}
 use Rattle.solver.specs.Families.{Families}
-use Rattle.solver.specs.Groups.{Lowest}
-use Rattle.families.specs.Plan.{leadsBy}
+use Rattle.solver.specs.Labels.{Lowest}
+use Rattle.families.specs.ModelFindings.{leadsBy}
 use Rattle.planner.specs.Choice.{Members, NoneEmpty, AllWithin, FirstEmpty}
 use Rattle.jobs.proofs.Outcomes.{too-short, no-fit, best-fit}
-use Rattle.solver.proofs.Accepting.{vars, counted as counted-by, bounded, families}
-use Rattle.planner.proofs.StateOfJob.{labels, members, counted, found, full, worth-best, area-best}
+use Rattle.solver.proofs.AcceptedJob.{vars, counted as counted-by, bounded, families}
+use Rattle.planner.proofs.StateOfJob.{labels, members, counted, found, full, objective-best, area-best}
 use Rattle.planner.proofs.fitted.Statement.{statement}
 use Rattle.planner.proofs.fitted.Tie as tie
 
@@ -111,8 +111,8 @@ module _ (c : tie.After-first-empty) where
   weighed : AllWithin 1000000 (rows .read .result .weights) (n known)
   weighed = record { at = λ i h. subst (Within 1000000) (sym (rows .read .ensures .1 .at i h)) (lawful .each-variable i (omega (arith, h, n-all)) .weight) }
 
-  grouped : known .count .result ≡ length (leadsBy (groupIn (state .groups)) (n known))
-  grouped = g-is known ∙ counted j lawful state are-families ∙ ap (λ k. length (leadsBy (groupIn (state .groups)) k)) (sym n-all)
+  grouped : known .count .result ≡ length (leadsBy (labelIn (state .labels)) (n known))
+  grouped = g-is known ∙ counted j lawful state are-families ∙ ap (λ k. length (leadsBy (labelIn (state .labels)) k)) (sym n-all)
 
 enum-known-empty : tie.Need-enum-known-empty
 enum-known-empty c = search needs
@@ -128,9 +128,9 @@ written-requires c κs =
       (
         weighed e,
         (
-          subst (Lowest (state e .groups)) (sym (n-all e)) (labels (j e) (lawful e) (state e) (are-families e)),
+          subst (Lowest (state e .labels)) (sym (n-all e)) (labels (j e) (lawful e) (state e) (are-families e)),
           (
-            subst (Members (state e .groups) (state e .runs)) (sym (n-all e)) (members (j e) (lawful e) (state e) (are-families e)),
+            subst (Members (state e .labels) (state e .runs)) (sym (n-all e)) (members (j e) (lawful e) (state e) (are-families e)),
             (subst (FirstEmpty (state e .runs) (n k)) (c .before .enum-told .given .1) (e .first-empty .ensures), (grouped e, omega (arith, room e, whole k))),
           ),
         ),
@@ -157,7 +157,7 @@ returns-3 c =
     let f = subst (FirstEmpty (state e .runs) (n k)) (w .before .before .enum-told .given .1) (e .first-empty .ensures) in
     let r = rows e .read in
     let (p, q) = best-fit (job k) (start k .args .area .now) (start k .pre .1) (room e) (full (j e) (lawful e) (state e) (are-families e) (subst (NoneEmpty (state e .runs)) (n-all e) f)) in (
-      w .written .ensures .0 ∙ ap planned (worth-best (j e) (lawful e) (state e) (are-families e) (n-all e) (r .result .weights) (r .ensures .1) f) ∙ sym p,
+      w .written .ensures .0 ∙ ap planned (objective-best (j e) (lawful e) (state e) (are-families e) (n-all e) (r .result .weights) (r .ensures .1) f) ∙ sym p,
       w .written .ensures .1 ∙ area-best (j e) (lawful e) (state e) (are-families e) (n-all e) (r .result .weights) (r .ensures .1) f (start k .args .area .now) ∙ sym q,
     )
 

@@ -11,16 +11,16 @@ use Rattle.ints.proofs.Signed.{held, cast}
 use Rattle.runs.specs.declared.Run.{Run}
 use Rattle.families.specs.FamilyRun.{FamilyRun}
 use Rattle.families.specs.Family.{choice}
-use Rattle.families.proofs.BestOfGroup.{choice-below}
+use Rattle.families.proofs.BestOfComponent.{choice-below}
 use Rattle.families.proofs.FamilySizes.{member-within, step-within, many-within}
-use Rattle.solver.proofs.Sizes.{fits, held-first, held-step, crossable}
+use Rattle.solver.proofs.In64Bits.{fits, held-first, held-step, crossable}
 use Rattle.planner.proofs.choose.number.Statement.{statement}
 use Rattle.planner.proofs.choose.number.Tie as tie
 
 -- k is the index of the member that is chosen
-module _ (r : Run) (gain : ℤ) (k : ℕ) (f : FamilyRun r) (some : 1 ≤ r .many) (e : k ≡ choice gain (r .many)) where
+module _ (r : Run) (slope : ℤ) (k : ℕ) (f : FamilyRun r) (some : 1 ≤ r .many) (e : k ≡ choice slope (r .many)) where
   below : k < r .many
-  below = omega (arith, e, choice-below gain (r .many) some)
+  below = omega (arith, e, choice-below slope (r .many) some)
 
   small : Within 2000000000 (pos k)
   small = lin (pos k ∷ []) most (search facts depth 20) (omega arith)
@@ -46,26 +46,26 @@ choice-requires c κs = search needs
 cast-result : tie.Need-cast-result
 cast-result c = search needs
 
-chosen : (c : tie.After-choice) → c .choice .result ≡ choice (c .before .args .gain) (c .before .args .run .many)
-chosen c = c .choice .ensures ∙ ap (λ g. choice g (c .before .args .run .many)) (toZ-ofZ (c .before .fits .gain))
+chosen : (c : tie.After-choice) → c .choice .result ≡ choice (c .before .args .slope) (c .before .args .run .many)
+chosen c = c .choice .ensures ∙ ap (λ g. choice g (c .before .args .run .many)) (toZ-ofZ (c .before .fits .slope))
 
 mul-result : tie.Need-mul-result
 mul-result c =
     let a = c .before .before in
     let s = a .before in
-    subst (SFits w64) (sym (product (s .args .run) (s .args .gain) (a .choice .result) (s .pre .0) (s .pre .1) (chosen a))) (fits-product (s .args .run) (s .args .gain) (a .choice .result) (s .pre .0) (s .pre .1) (chosen a))
+    subst (SFits w64) (sym (product (s .args .run) (s .args .slope) (a .choice .result) (s .pre .0) (s .pre .1) (chosen a))) (fits-product (s .args .run) (s .args .slope) (a .choice .result) (s .pre .0) (s .pre .1) (chosen a))
 
 add-result : tie.Need-add-result
 add-result c =
     let a = c .before .before .before .before in
     let s = a .before in
-    subst (SFits w64) (sym (total (s .args .run) (s .args .gain) (a .choice .result) (s .pre .0) (s .pre .1) (chosen a))) (fits-total (s .args .run) (s .args .gain) (a .choice .result) (s .pre .0) (s .pre .1) (chosen a))
+    subst (SFits w64) (sym (total (s .args .run) (s .args .slope) (a .choice .result) (s .pre .0) (s .pre .1) (chosen a))) (fits-total (s .args .run) (s .args .slope) (a .choice .result) (s .pre .0) (s .pre .1) (chosen a))
 
 returns : tie.Need-returns
 returns c =
     let a = c .before .before .before .before in
     let s = a .before in
-    ap held (total (s .args .run) (s .args .gain) (a .choice .result) (s .pre .0) (s .pre .1) (chosen a)) ∙ toZ-ofZ (fits-total (s .args .run) (s .args .gain) (a .choice .result) (s .pre .0) (s .pre .1) (chosen a)) ∙ ap (λ k. s .args .run .first +ℤ s .args .run .step *ℤ pos k) (chosen a)
+    ap held (total (s .args .run) (s .args .slope) (a .choice .result) (s .pre .0) (s .pre .1) (chosen a)) ∙ toZ-ofZ (fits-total (s .args .run) (s .args .slope) (a .choice .result) (s .pre .0) (s .pre .1) (chosen a)) ∙ ap (λ k. s .args .run .first +ℤ s .args .run .step *ℤ pos k) (chosen a)
 
 pub number-spec : {M : Type 1} → statement M
 number-spec = tie.close (tie.spec choice-requires cast-result mul-result add-result returns)

@@ -6,18 +6,18 @@ use borrow.Author.Needs.{needs}
 use lib.IntN.{ℤ, pos}
 use Rattle.lists.proofs.ArrayPass.{Filled, unfilled, filled}
 use Rattle.jobs.specs.Solution.{number}
-use Rattle.solver.specs.Arrays.{groupIn, runIn}
-use Rattle.solver.proofs.Sizes.{held-element}
+use Rattle.solver.specs.StateArrays.{labelIn, runIn}
+use Rattle.solver.proofs.In64Bits.{held-element}
 use Rattle.planner.specs.Choice.{numberAt, numberIn}
-use Rattle.planner.proofs.Choosing.{held-number}
+use Rattle.planner.proofs.ChosenNumber.{held-number}
 use Rattle.planner.proofs.choose.numbers.Statement.{statement}
 use Rattle.planner.proofs.choose.numbers.Tie as tie
 
 abbrev Inv-loop : tie.InvT-loop
-Inv-loop n groups runs gains numbers₀ i₀ numbers i = (i ≤ n) × Filled (pos 0) (numberIn groups runs gains) i numbers
+Inv-loop n labels runs slopes numbers₀ i₀ numbers i = (i ≤ n) × Filled (pos 0) (numberIn labels runs slopes) i numbers
 
 abbrev μ-loop : tie.MeasureT-loop
-μ-loop n groups runs gains numbers₀ i₀ numbers i = n - i
+μ-loop n labels runs slopes numbers₀ i₀ numbers i = n - i
 
 loop-holds : tie.Need-loop-holds Inv-loop μ-loop
 loop-holds c = let x = c .args in (omega arith, unfilled (pos 0) (numberIn (x .t1) (x .t2) (x .t3)) _ (search needs))
@@ -67,7 +67,7 @@ loop-again c =
     let s = c .before .before .before .before .before in
     let x = s .args in
     let p = s .pre .1 .1 in
-    let g = number (x .t3) (groupIn (x .t1) (l .i)) in
+    let g = number (x .t3) (labelIn (x .t1) (l .i)) in
     let e : c .number .result ≡ numberAt (runIn (x .t2) (l .i)) g = c .number .ensures ∙ ap (numberAt (runIn (x .t2) (l .i))) (held-element g (c .before .number-arg .given)) in (
       omega arith,
       filled (pos 0) (numberIn (x .t1) (x .t2) (x .t3)) (l .i) (l .numbers) (l .inv .1) _ (omega arith) (held-number (p .0 .at (l .i) (omega arith)) (p .1 .at (l .i) (omega arith)) g e),

@@ -11,31 +11,31 @@ use Rattle.runs.specs.declared.Run.{Run}
 use Rattle.families.specs.Family.{choice}
 use Rattle.jobs.specs.Solution.{number}
 use Rattle.jobs.specs.Sheet.{sheetGroup, sheetGroups}
-use Rattle.jobs.proofs.Fields.{length-groups}
-use Rattle.families.specs.Plan.{leadsBy}
+use Rattle.jobs.proofs.SheetFields.{length-groups}
+use Rattle.families.specs.ModelFindings.{leadsBy}
 use Rattle.bytes.specs.Over.{over}
-use Rattle.solver.specs.Arrays.{groupIn, runIn}
+use Rattle.solver.specs.StateArrays.{labelIn, runIn}
 use Rattle.planner.specs.Choice.{chosenIn}
-use Rattle.solver.proofs.Leads.{leads-none, leads-yes, leads-no, leads-length, leads-mono}
+use Rattle.solver.proofs.LowestVariables.{leads-none, leads-yes, leads-no, leads-length, leads-mono}
 use Rattle.bytes.proofs.Over.{over-none, over-same}
-use Rattle.solver.proofs.Sizes.{held-element}
+use Rattle.solver.proofs.In64Bits.{held-element}
 use Rattle.planner.proofs.SheetRows.{laid, laid-length, groups-none, groups-yes, groups-no}
 use Rattle.planner.proofs.sheet.group_rows.Statement.{statement}
 use Rattle.planner.proofs.sheet.group_rows.Tie as tie
 
 -- the rows of the groups that the first i variables lead
 abbrev rows : List ℕ → List Run → List ℤ → ℕ → List ℕ
-rows groups runs gains i = sheetGroups (runIn runs) (chosenIn runs gains) (number gains) (leadsBy (groupIn groups) i)
+rows labels runs slopes i = sheetGroups (runIn runs) (chosenIn runs slopes) (number slopes) (leadsBy (labelIn labels) i)
 
-long : (groups : List ℕ) (runs : List Run) (gains : List ℤ) (i : ℕ) → length (rows groups runs gains i) ≡ 16 * length (leadsBy (groupIn groups) i)
-long groups runs gains i = length-groups (runIn runs) (chosenIn runs gains) (number gains) (leadsBy (groupIn groups) i)
+long : (labels : List ℕ) (runs : List Run) (slopes : List ℤ) (i : ℕ) → length (rows labels runs slopes i) ≡ 16 * length (leadsBy (labelIn labels) i)
+long labels runs slopes i = length-groups (runIn runs) (chosenIn runs slopes) (number slopes) (leadsBy (labelIn labels) i)
 
 -- the part stays as long as it is
-kept : (groups : List ℕ) (runs : List Run) (gains : List ℤ) (n i : ℕ) (a x : List ℕ) → i ≤ n → 16 * length (leadsBy (groupIn groups) n) ≤ length a →
-    x ≡ over 0 (rows groups runs gains i) a → length x ≡ length a
-kept groups runs gains n i a x h l e =
-    laid-length 0 (length (leadsBy (groupIn groups) i)) (rows groups runs gains i) a x (long groups runs gains i)
-    (omega (arith, leads-mono (groupIn groups) i n h, l)) e
+kept : (labels : List ℕ) (runs : List Run) (slopes : List ℤ) (n i : ℕ) (a x : List ℕ) → i ≤ n → 16 * length (leadsBy (labelIn labels) n) ≤ length a →
+    x ≡ over 0 (rows labels runs slopes i) a → length x ≡ length a
+kept labels runs slopes n i a x h l e =
+    laid-length 0 (length (leadsBy (labelIn labels) i)) (rows labels runs slopes i) a x (long labels runs slopes i)
+    (omega (arith, leads-mono (labelIn labels) i n h, l)) e
 
 -- at the lowest variable i of a group there is room for a row
 room : (g : ℕ → ℕ) (n i : ℕ) (a : List ℕ) → i < n → g i ≡ i → 16 * length (leadsBy g n) ≤ length a → 16 * length (leadsBy g i) + 16 ≤ length a
@@ -45,18 +45,18 @@ more : (g : ℕ → ℕ) (i at : ℕ) → g i ≡ i → at ≡ 16 * length (lead
 more g i at e q = omega (arith, q, ap length (leads-yes g i e) ∙ length-append (leadsBy g i) (i ∷ []))
 
 abbrev Inv-loop : tie.InvT-loop
-Inv-loop part₀ n groups runs gains at₀ i₀ part at i = (i ≤ n) × ((at ≡ 16 * length (leadsBy (groupIn groups) i)) × (part ≡ over 0 (rows groups runs gains i) part₀))
+Inv-loop part₀ n labels runs slopes at₀ i₀ part at i = (i ≤ n) × ((at ≡ 16 * length (leadsBy (labelIn labels) i)) × (part ≡ over 0 (rows labels runs slopes i) part₀))
 
 abbrev μ-loop : tie.MeasureT-loop
-μ-loop part₀ n groups runs gains at₀ i₀ part at i = n - i
+μ-loop part₀ n labels runs slopes at₀ i₀ part at i = n - i
 
 loop-holds : tie.Need-loop-holds Inv-loop μ-loop
 loop-holds c =
     let x = c .before .args in (
       omega arith,
       (
-        sym (ap (λ ls. 16 * length ls) (leads-none (groupIn (x .t2)))),
-        sym (ap (λ b. over 0 b (x .part .now)) (groups-none (groupIn (x .t2)) (runIn (x .t3)) (chosenIn (x .t3) (x .t4)) (number (x .t4))) ∙ over-none 0 (x .part .now) (omega arith)),
+        sym (ap (λ ls. 16 * length ls) (leads-none (labelIn (x .t2)))),
+        sym (ap (λ b. over 0 b (x .part .now)) (groups-none (labelIn (x .t2)) (runIn (x .t3)) (chosenIn (x .t3) (x .t4)) (number (x .t4))) ∙ over-none 0 (x .part .now) (omega arith)),
       ),
     )
 
@@ -86,7 +86,7 @@ group-requires c κs =
     let l = c .before .before .before .before .before .loop in
     let s = c .before .before .before .before .before .before .before in
     let x = s .args in (
-      omega (arith, l .inv .1 .0, room (groupIn (x .t2)) (x .n) (l .i) (x .part .now) (omega arith) (c .before .before .before .if1 .taken) (s .pre .1 .0), kept (x .t2) (x .t3) (x .t4) (x .n) (l .i) (x .part .now) (l .part) (l .inv .0) (s .pre .1 .0) (l .inv .1 .1)),
+      omega (arith, l .inv .1 .0, room (labelIn (x .t2)) (x .n) (l .i) (x .part .now) (omega arith) (c .before .before .before .if1 .taken) (s .pre .1 .0), kept (x .t2) (x .t3) (x .t4) (x .n) (l .i) (x .part .now) (l .part) (l .inv .0) (s .pre .1 .0) (l .inv .1 .1)),
       s .pre .1 .1 .at (l .i) (omega arith),
     )
 
@@ -94,7 +94,7 @@ add-at : tie.Need-add-at Inv-loop μ-loop
 add-at c =
     let l = c .before .before .before .before .before .before .before .before .loop in
     let s = c .before .before .before .before .before .before .before .before .before .before in
-    omega (arith, l .inv .1 .0, leads-length (groupIn (s .args .t2)) (l .i))
+    omega (arith, l .inv .1 .0, leads-length (labelIn (s .args .t2)) (l .i))
 
 add-i : tie.Need-add-i Inv-loop μ-loop
 add-i c = omega arith
@@ -107,7 +107,7 @@ loop-again c =
     let l = c .before .before .loop in
     let s = c .before .before .before .before in
     let x = s .args in
-    let g = groupIn (x .t2) in
+    let g = labelIn (x .t2) in
     ⊎-elim
     (λ w. (
       omega arith,
@@ -116,14 +116,14 @@ loop-again c =
         w .7 ∙ laid 0 (length (leadsBy g (l .i))) (rows (x .t2) (x .t3) (x .t4) (l .i)) (sheetGroup (runIn (x .t3) (l .i) .many) (chosenIn (x .t3) (x .t4) (l .i)) (number (x .t4) (l .i))) (x .part .now) (l .part) _ (long (x .t2) (x .t3) (x .t4) (l .i))
             (omega (arith, room g (x .n) (l .i) (x .part .now) (omega arith) (w .0 .taken) (s .pre .1 .0))) (omega (arith, l .inv .1 .0)) (l .inv .1 .1)
             (over-same (l .at) (l .part) _ (ap (λ z. sheetGroup (runIn (x .t3) (l .i) .many) (choice z (runIn (x .t3) (l .i) .many)) z) (held-element (getD (x .t4) (l .i) (pos 0)) (w .3 .given))) (w .4 .ensures))
-            ∙ ap (λ b. over 0 b (x .part .now)) (groups-yes (groupIn (x .t2)) (runIn (x .t3)) (chosenIn (x .t3) (x .t4)) (number (x .t4)) (l .i) (w .0 .taken)),
+            ∙ ap (λ b. over 0 b (x .part .now)) (groups-yes (labelIn (x .t2)) (runIn (x .t3)) (chosenIn (x .t3) (x .t4)) (number (x .t4)) (l .i) (w .0 .taken)),
       ),
     ))
     (λ w. (
       omega arith,
       (
         w .2 ∙ l .inv .1 .0 ∙ sym (ap (λ ls. 16 * length ls) (leads-no g (l .i) (w .0 .left))),
-        w .1 ∙ l .inv .1 .1 ∙ ap (λ b. over 0 b (x .part .now)) (groups-no (groupIn (x .t2)) (runIn (x .t3)) (chosenIn (x .t3) (x .t4)) (number (x .t4)) (l .i) (w .0 .left)),
+        w .1 ∙ l .inv .1 .1 ∙ ap (λ b. over 0 b (x .part .now)) (groups-no (labelIn (x .t2)) (runIn (x .t3)) (chosenIn (x .t3) (x .t4)) (number (x .t4)) (l .i) (w .0 .left)),
       ),
     ))
     (c .if1 .came)

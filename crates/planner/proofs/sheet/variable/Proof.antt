@@ -15,7 +15,7 @@ use Rattle.bytes.specs.Over.{over}
 use Rattle.bytes.proofs.LittleEndian.{length-bytesOf}
 use Rattle.bytes.proofs.TwosComplement.{length-signedBytes}
 use Rattle.bytes.proofs.Over.{over-same, Written, behind-it}
-use Rattle.solver.proofs.Sizes.{held-first, held-step, crossable}
+use Rattle.solver.proofs.In64Bits.{held-first, held-step, crossable}
 use Rattle.planner.proofs.sheet.variable.Statement.{statement}
 use Rattle.planner.proofs.sheet.variable.Tie as tie
 

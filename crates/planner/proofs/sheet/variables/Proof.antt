@@ -10,9 +10,9 @@ use Rattle.ints.specs.Within.{Within}
 use Rattle.runs.specs.declared.Run.{Run}
 use Rattle.jobs.specs.Solution.{number}
 use Rattle.jobs.specs.Sheet.{sheetVariable, sheetVariables}
-use Rattle.jobs.proofs.Fields.{length-variables}
-use Rattle.solver.specs.Arrays.{runIn}
-use Rattle.solver.proofs.Sizes.{held-within}
+use Rattle.jobs.proofs.SheetFields.{length-variables}
+use Rattle.solver.specs.StateArrays.{runIn}
+use Rattle.solver.proofs.In64Bits.{held-within}
 use Rattle.bytes.specs.Over.{over}
 use Rattle.bytes.proofs.Over.{over-none, over-same}
 use Rattle.planner.proofs.SheetRows.{laid, laid-length, variables-none, variables-next}

@@ -9,7 +9,7 @@ use Rattle.ints.proofs.Signed.{held}
 use Rattle.runs.specs.declared.Equation.{Equation}
 use Rattle.runs.specs.Workings.{CarryLimits}
 use Rattle.runs.proofs.CarryWidths.{fits-a, fits-b}
-use Rattle.solver.proofs.Sizes.{fits}
+use Rattle.solver.proofs.In64Bits.{fits}
 use Rattle.solver.proofs.cycle.combined.Statement.{statement}
 use Rattle.solver.proofs.cycle.combined.Tie as tie
 

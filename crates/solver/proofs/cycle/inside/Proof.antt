@@ -20,7 +20,7 @@ use Rattle.families.specs.FamilyRun.{FamilyRun}
 use Rattle.runs.proofs.CarryWidths.{fits-c}
 use Rattle.families.specs.Model.{coefficient, residual, candidate, cycle}
 use Rattle.families.proofs.FamilySizes.{first-within, step-within}
-use Rattle.solver.proofs.Sizes.{fits, held-first, held-step, crossable}
+use Rattle.solver.proofs.In64Bits.{fits, held-first, held-step, crossable}
 use Rattle.solver.proofs.cycle.inside.Statement.{statement}
 use Rattle.solver.proofs.cycle.inside.Tie as tie
 

@@ -15,7 +15,7 @@ use Rattle.families.proofs.JoinStep.{common-is}
 use Rattle.solver.specs.declared.cycle.Remains.{Remains}
 use Rattle.solver.specs.declared.cycle.Remains.the-variants.{All, At}
 use Rattle.solver.specs.Steps.{remainsBy, indicesBy}
-use Rattle.solver.proofs.Joining.{apart-told, together-told}
+use Rattle.solver.proofs.JoinTest.{apart-told, together-told}
 use Rattle.solver.proofs.equations.leaves.Statement.{statement}
 use Rattle.solver.proofs.equations.leaves.Tie as tie
 

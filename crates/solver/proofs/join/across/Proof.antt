@@ -13,7 +13,7 @@ use Rattle.runs.specs.Workings.{CarryLimits}
 use Rattle.families.specs.FamilyRun.{across}
 use Rattle.runs.proofs.CarryWidths.{fits-a, fits-b}
 use Rattle.solver.specs.Widths.{Crossable}
-use Rattle.solver.proofs.Sizes.{held-first, held-step}
+use Rattle.solver.proofs.In64Bits.{held-first, held-step}
 use Rattle.solver.proofs.join.across.Statement.{statement}
 use Rattle.solver.proofs.join.across.Tie as tie
 

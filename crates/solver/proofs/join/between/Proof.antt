@@ -16,8 +16,8 @@ use Rattle.families.specs.FamilyRun.{FamilyRun, upward, across}
 use Rattle.families.proofs.FamilyRuns.{upward-form}
 use Rattle.families.specs.Model.{Indices as Pair, indicesIn, directed, join}
 use Rattle.solver.specs.Widths.{Turnable, Crossable}
-use Rattle.solver.proofs.Sizes.{crossable}
-use Rattle.solver.proofs.Meeting.{joined-crossable, partners-crossable, left-turnable, right-turnable}
+use Rattle.solver.proofs.In64Bits.{crossable}
+use Rattle.solver.proofs.JoinWidths.{joined-crossable, partners-crossable, left-turnable, right-turnable}
 use Rattle.solver.proofs.join.between.Statement.{statement}
 use Rattle.solver.proofs.join.between.Tie as tie
 

@@ -10,7 +10,7 @@ use Rattle.runs.specs.declared.Run.{Run}
 use Rattle.families.specs.FamilyRun.{ratio}
 use Rattle.families.specs.Model.{indicesIn}
 use Rattle.solver.specs.Widths.{Crossable}
-use Rattle.solver.proofs.Sizes.{fits, held-first, held-step}
+use Rattle.solver.proofs.In64Bits.{fits, held-first, held-step}
 use Rattle.solver.proofs.join.indices_in.Statement.{statement}
 use Rattle.solver.proofs.join.indices_in.Tie as tie
 

@@ -12,7 +12,7 @@ use Rattle.ints.proofs.Answers.{asked, answered}
 use Rattle.runs.specs.declared.Equation.{Equation}
 use Rattle.runs.specs.Workings.{CarryLimits}
 use Rattle.runs.proofs.CarryWidths.{fits-a, fits-c}
-use Rattle.solver.proofs.Sizes.{fits}
+use Rattle.solver.proofs.In64Bits.{fits}
 use Rattle.solver.proofs.join.partner.Statement.{statement}
 use Rattle.solver.proofs.join.partner.Tie as tie
 

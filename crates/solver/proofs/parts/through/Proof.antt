@@ -14,7 +14,7 @@ use Rattle.runs.specs.Run.{empty}
 use Rattle.families.specs.FamilyRun.{FamilyRun}
 use Rattle.families.specs.Model.{through}
 use Rattle.families.proofs.FamilySizes.{first-within, step-within}
-use Rattle.solver.proofs.Sizes.{fits}
+use Rattle.solver.proofs.In64Bits.{fits}
 use Rattle.solver.proofs.parts.through.Statement.{statement}
 use Rattle.solver.proofs.parts.through.Tie as tie
 use Rattle.solver.proofs.parts.through.Reads as reads

@@ -10,7 +10,7 @@ use Rattle.ints.proofs.Signed.{held, cast}
 use Rattle.runs.specs.declared.Run.{Run}
 use Rattle.families.specs.FamilyRun.{turned}
 use Rattle.solver.specs.Widths.{Turnable}
-use Rattle.solver.proofs.Sizes.{fits}
+use Rattle.solver.proofs.In64Bits.{fits}
 use Rattle.solver.proofs.parts.turned.Statement.{statement}
 use Rattle.solver.proofs.parts.turned.Tie as tie
 

@@ -8,7 +8,7 @@ use Rattle.ints.proofs.Signed.{held}
 use Rattle.runs.specs.declared.Run.{Run}
 use Rattle.families.specs.FamilyRun.{FamilyRun, turned, upward}
 use Rattle.families.proofs.FamilySizes.{step-within}
-use Rattle.solver.proofs.Sizes.{fits, turnable}
+use Rattle.solver.proofs.In64Bits.{fits, turnable}
 use Rattle.solver.proofs.parts.upward.Statement.{statement}
 use Rattle.solver.proofs.parts.upward.Tie as tie
 

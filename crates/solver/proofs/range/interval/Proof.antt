@@ -18,7 +18,7 @@ use Rattle.runs.specs.Method.{progression}
 use Rattle.families.specs.Model.{interval}
 use Rattle.jobs.specs.declared.Bounds.{Bounds}
 use Rattle.jobs.specs.Bounds.{Bounded}
-use Rattle.solver.proofs.Sizes.{fits}
+use Rattle.solver.proofs.In64Bits.{fits}
 use Rattle.solver.proofs.range.interval.Statement.{statement}
 use Rattle.solver.proofs.range.interval.Tie as tie
 
