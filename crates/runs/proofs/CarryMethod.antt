@@ -18,7 +18,7 @@ use Rattle.runs.specs.Search.{Partner}
 use Rattle.runs.specs.Workings.{Equation, CarryLimits}
 use Rattle.runs.specs.Method.{Carriable, imageInRange, Class, Interval, InInterval, Clippable, Places, InReach, AllSolutions, Solves, stride, span, clip, partnerValue, placesWithPartner, numbersAt, partners, image, carryBy, upright}
 use Rattle.runs.proofs.Members.{empty-form, not-in-empty}
-use Rattle.runs.proofs.ClassOfRun.{in-span, stride-above, first-within, last-within, stride-within}
+use Rattle.runs.proofs.ClassOfRun.{in-span, stride-above, first-within, last-within, stride-small}
 use Rattle.runs.proofs.Intervals.{in-common, either, greater-over, smaller-under, in-whole}
 use Rattle.runs.proofs.ClassInInterval.{IsClip, is-clip}
 use Rattle.runs.proofs.CarryWidths.{value-within}
@@ -44,12 +44,9 @@ module _ {e : Equation} {q : Run} (k : Carriable e q) where
   t-nonneg : pos 0 ≤ℤ stride q
   t-nonneg = lin (stride q ∷ []) t-above (search facts depth 20) (omega arith)
 
-  pub stride-small : Within 2000000000 (stride q)
-  stride-small = lin (stride q ∷ []) (t-above & stride-within (k .form) (k .some)) (search facts depth 20) (omega arith)
-
   -- how large |b|·stride is
   pub product-small : Within 2000000000000000 (pos (natAbs (e .b)) *ℤ stride q)
-  product-small = let w : Within 1000000 (pos (natAbs (e .b))) = record { size = k .limits .right .size } in within-mul w stride-small
+  product-small = let w : Within 1000000 (pos (natAbs (e .b))) = record { size = k .limits .right .size } in within-mul w (stride-small (k .form) (k .some))
 
   none : ((i : ℤ) → Congruent (e .a) (e .b *ℤ stride q *ℤ i) (e .c -ℤ e .b *ℤ q .first) → ⊥) → IsCarry (e .a) (e .b) (e .c) q empty
   none n = record { form = empty-form; all = λ p. (λ m. not-in-empty m, λ m. absurd (n (pair (m .1) .class .factor) (at-place (pair (m .1))))) }
@@ -162,7 +159,7 @@ module _ {e : Equation} {q : Run} (k : Carriable e q) where
   -- and the places are within reach of the congruence
   pub places-reach : InReach (placesWithPartner e q)
   places-reach = record {
-    factor = lin (e .b ∷ stride q ∷ []) (within-mul (k .limits .right) stride-small) (search facts depth 20) (omega arith);
+    factor = lin (e .b ∷ stride q ∷ []) (within-mul (k .limits .right) (stride-small (k .form) (k .some))) (search facts depth 20) (omega arith);
     value = lin (partnerValue e (q .first) ∷ []) (value-within (k .limits) (first-within (k .form) (k .some))) (search facts depth 20) (omega arith);
     above = k .above;
     modulus = lin (e .a ∷ []) (k .limits .left) (search facts depth 20) (omega arith);

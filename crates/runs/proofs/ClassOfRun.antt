@@ -103,3 +103,6 @@ module _ {r : Run} (o : OneForm r) (h : 1 ≤ r .many) where
       go zero k = k
       go (suc zero) k = lin₀ [] (search facts depth 20) (omega arith)
       go (suc (suc n)) k = k
+
+  pub stride-small : Within 2000000000 (stride r)
+  stride-small = lin (stride r ∷ []) (stride-above o h & stride-within) (search facts depth 20) (omega arith)

@@ -1,9 +1,10 @@
 //! The methods of `Equation`: its limits, and the parts of carrying, most of them for an a above 0.
 
 ghost use mathlib.Core.Path.{_≡_};
+ghost use Prim.Native.Nat.{_≤_};
 ghost use lib.Signed.{_≤ℤ_};
 ghost use Rattle.ints.specs.Within.{Within};
-ghost use Rattle.runs.specs.Run.{bound};
+ghost use Rattle.runs.specs.Run.{OneForm, bound};
 ghost use Rattle.runs.specs.Workings.{CarryLimits, isCoefficient, carryLimits};
 ghost use Rattle.runs.specs.Method.{upright, Carriable, partnerValue, placesWithPartner, AllSolutions, numbersAt, span, partners, stepOf, between, image, imageInRange, carryBy};
 ghost use Rattle.runs.specs.declared.congruence.Solutions.the-variants.{Every};
@@ -44,7 +45,9 @@ impl Equation {
 
     // The places in a run of the numbers with a partner.
     pub(crate) fn places(self, q: Run) -> Congruence
-        requires { ⌜ Carriable self q ⌝ }
+        requires { ⌜ CarryLimits self ⌝ }
+        requires { ⌜ OneForm q ⌝ }
+        requires { ⌜ 1 ≤ q .many ⌝ }
         ensures { λ r. ⌜ r ≡ placesWithPartner self q ⌝ }
     {
         Congruence {

@@ -14,8 +14,9 @@ use Rattle.ints.proofs.Answers.{fits-limit, asked, answered}
 use Rattle.runs.specs.Run.{Run}
 use Rattle.runs.specs.Workings.{Equation}
 use Rattle.runs.specs.Method.{Class, Carriable, AllSolutions, stride, placesWithPartner, stepOf}
+use Rattle.runs.proofs.ClassOfRun.{stride-small}
 use Rattle.runs.proofs.SolutionPeriod.{period-above, period-within}
-use Rattle.runs.proofs.CarryMethod.{stride-small, product-small, parts-above}
+use Rattle.runs.proofs.CarryMethod.{product-small, parts-above}
 use Rattle.ints.proofs.Signed.{held, cast}
 use Rattle.runs.proofs.CarryWidths.{fits-b}
 use Rattle.runs.proofs.Equation.step_of.Statement.{statement}
@@ -45,7 +46,7 @@ module _ {e : Equation} {q : Run} {j : Class} (p : Carriable e q × AllSolutions
 
     module _ (t : ℤ) (t-is : t ≡ stride q) where
       fits-t : SFits w64 t
-      fits-t = rw t-is (lin (stride q ∷ []) (stride-small (p .0)) (search signed depth 20) (omega arith))
+      fits-t = rw t-is (lin (stride q ∷ []) (stride-small (p .0 .form) (p .0 .some)) (search signed depth 20) (omega arith))
 
       product-within : Within limit (pos n *ℤ t)
       product-within = rw (n-is, t-is) (lin (pos (natAbs (e .b)) ∷ stride q ∷ []) (product-small (p .0)) (search facts depth 20) (omega arith))

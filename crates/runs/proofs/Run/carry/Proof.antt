@@ -74,7 +74,7 @@ upright-requires : tie.Need-upright-requires
 upright-requires c κs = search needs
 
 places-requires : tie.Need-places-requires
-places-requires c κs = carriable c
+places-requires c κs = let k = carriable c in (k .limits, (k .form, k .some))
 
 solve-requires : tie.Need-solve-requires
 solve-requires c κs =
