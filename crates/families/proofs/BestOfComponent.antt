@@ -1,5 +1,5 @@
--- The choice in one group, where its solutions in order are base + step·k, k = 0 to fits − 1: the last of them is the best where
--- the gain is above 0, and the first elsewhere. c is the group's own job, and its gain is `slope c`.
+-- The choice in one component, where its solutions in order are base + step·k, k = 0 to fits − 1: the last of them is the best where
+-- the slope is above 0, and the first elsewhere. c is the component's own job, and its slope is `slope c`.
 use mathlib.Core.Path.{_≡_, refl, sym, _∙_, ap}
 use mathlib.Core.Logic.{_⊎_, inl, inr}
 use mathlib.Core.Bool.{Bool, true, false, cond}
@@ -27,7 +27,7 @@ use Rattle.families.specs.Family.{member, choice}
 weighed : (w b s k : ℤ) → w *ℤ (b +ℤ s *ℤ k) ≡ w *ℤ b +ℤ w *ℤ s *ℤ k
 weighed w b s k = lin₀ (w ∷ b ∷ s ∷ k ∷ []) (search facts depth 20) (omega arith)
 
--- from one member to the next it moves by the gain
+-- from one member to the next it moves by the slope
 pub objective-member : (c : Job) (k : ℕ) → objective c (member c k) ≡ objective c (base c) +ℤ slope c *ℤ pos k
 unfolding objective slope
 objective-member c k =
@@ -111,7 +111,7 @@ module _ (c : Job) (e : solutions c ≡ table (member c) (fits c)) where
       go (yes q) = inl (ap (member c) q)
       go (no n) = more-at 0 k (line-down (objective c (base c)) (slope c) (pos 0) (pos k) g (pos-below (omega arith)))
 
-  -- with a gain of 0 all members are of equal objective, and the chosen one comes before every other. In the choice it counts
+  -- with a slope of 0 all members are of equal objective, and the chosen one comes before every other. In the choice it counts
   -- only here which of two lists is `Earlier`: a turned tie-break turns this lemma, and `choice` with its laws above.
   tie : slope c ≡ pos 0 → (k : ℕ) → k < fits c → Beaten (choice (slope c) (fits c)) k
   tie g k h = rw first (go (ℕ-discrete k 0))

@@ -1,5 +1,5 @@
--- From groups to the whole job: the objective is the sum of the groups' objectives, the best of each group put together is the
--- best of the job, and so is what the choice in each group's family gives.
+-- From components to the whole job: the objective is the sum of the components' objectives, the best of each component put together is the
+-- best of the job, and so is what the choice in each component's family gives.
 use mathlib.Core.Path.{_≡_, refl, sym, _∙_, ap, ap₂, subst}
 use mathlib.Core.Logic.{_⊎_, inl, inr, _↔_, _≢_, Iff·trans}
 use Prim.Native.Nat.{ℕ, _<_}
@@ -28,7 +28,7 @@ use Rattle.jobs.proofs.Assembly.{outside-zero, component-length, variable-insid
 use Rattle.families.specs.Family.{member, IsFamily, choice}
 use Rattle.families.proofs.BestOfComponent.{choice-optimal}
 
--- an order of lists in which a list that comes before another does so in the part of some group
+-- an order of lists in which a list that comes before another does so in the part of some component
 record ByParts (j : Job) (R : List ℤ → List ℤ → Type 0) : Type 0 where
   asym : (x y : List ℤ) → R x y → R y x → ⊥
   compares : (x y : List ℤ) → length x ≡ length y → (x ≡ y) ⊎ (R x y ⊎ R y x)
@@ -42,7 +42,7 @@ module _ (j : Job) where
   part-length : (l : ℕ) (x : List ℤ) → length (partOf j l x) ≡ n
   part-length l x = length-table _ n
 
-  -- parts of one group are equal at a variable where the lists are, and where it is of another group
+  -- parts of one component are equal at a variable where the lists are, and where it is of another component
   same-at : (l : ℕ) (x y : List ℤ) (i : ℕ) → i < n → (lowest j i ≡ l → number x i ≡ number y i) → number (partOf j l x) i ≡ number (partOf j l y) i
   same-at l x y i h e = go (ℕ-discrete (lowest j i) l)
     where
@@ -56,7 +56,7 @@ module _ (j : Job) where
       each : (i : ℕ) → i < length (partOf j l x) → number (partOf j l x) i ≡ number (partOf j l y) i
       each i h = let b : i < n = omega (arith, part-length l x) in same-at l x y i b (f i b)
 
-  -- a solution of a group is 0 outside it, so it is its own part
+  -- a solution of a component is 0 outside it, so it is its own part
   part-self : (l : ℕ) (z : List ℤ) → IsSolution (componentJob j l) z → partOf j l z ≡ z
   part-self l z s = same-places (pos 0) (partOf j l z) z (part-length l z ∙ sym (s .long ∙ component-length j l)) each
     where
@@ -70,19 +70,19 @@ module _ (j : Job) where
           go (yes q) = part-inside j l z i b q
           go (no d) = part-outside j l z i b d ∙ sym (outside-zero j l z s i b d)
 
-  -- the parts of a list put together from solutions of the groups are these
+  -- the parts of a list put together from solutions of the components are these
   pub part-assembled : (f : ℕ → List ℤ) (l : ℕ) → IsSolution (componentJob j l) (f l) → partOf j l (assembled j f) ≡ f l
   part-assembled f l s = same-part l (assembled j f) (f l) (λ i h e. assembled-at j f i h ∙ ap (λ m. number (f m) i) e) ∙ part-self l (f l) s
 
-  -- where l is no group's lowest variable, there is nothing in the part
+  -- where l is no component's lowest variable, there is nothing in the part
   part-nothing : (l : ℕ) (x y : List ℤ) → lowest j l ≢ l → partOf j l x ≡ partOf j l y
   part-nothing l x y d = same-part l x y (λ i h e. absurd (d (sym (ap (lowest j) e) ∙ lowest-self j i ∙ e)))
 
-  -- ---- the objective, group by group
+  -- ---- the objective, component by component
   abbrev weigh : (ℕ → ℤ) → ℕ → ℤ
   weigh f i = variable j i .weight *ℤ f i
 
-  -- that of a group's own job counts only what a list has inside the group
+  -- that of a component's own job counts only what a list has inside the component
   pub objective-own : (l : ℕ) (x : List ℤ) (f : ℕ → ℤ) → ((i : ℕ) → i < length (j .variables) → lowest j i ≡ l → number x i ≡ f i) →
       objective (componentJob j l) x ≡ sumOf (lowest j) l (length (j .variables)) (λ i. variable j i .weight *ℤ f i)
   unfolding objective
@@ -103,7 +103,7 @@ module _ (j : Job) where
               ∙ sym (ap (λ m. pick (eqb m l) (weigh f i)) q ∙ pick-yes l (weigh f i))
           go (no d) = ap (λ v. v .weight *ℤ number x i) (variable-outside j l i h d) ∙ nothing (number x i) ∙ sym (pick-no (lowest j i) l (weigh f i) d)
 
-  -- and of a list that is 0 outside the group it is that of the job
+  -- and of a list that is 0 outside the component it is that of the job
   pub objective-inside : (l : ℕ) (x : List ℤ) → ((i : ℕ) → i < length (j .variables) → lowest j i ≢ l → number x i ≡ pos 0) → objective j x ≡ objective (componentJob j l) x
   unfolding objective
   objective-inside l x zero = sum-ext n (weigh (number x)) own each ∙ ap (λ m. sum m own) (sym (component-length j l))
@@ -125,16 +125,16 @@ module _ (j : Job) where
   unfolding objective
   by-labels x = regroup (lowest j) n n (weigh (number x)) (λ i h. omega (arith, lowest-le j i))
 
-  -- it is the sum of the parts' objectives; where l is no group's lowest variable, that of the part is 0
+  -- it is the sum of the parts' objectives; where l is no component's lowest variable, that of the part is 0
   pub objective-parts : (x : List ℤ) → objective j x ≡ sum (length (j .variables)) (λ l. objective (componentJob j l) (partOf j l x))
   objective-parts x = by-labels x ∙ sum-ext n _ _ (λ l h. sym (objective-own l (partOf j l x) (number x) (part-inside j l x)))
 
-  -- what the group of l adds to it
+  -- what the component of l adds to it
   abbrev worth : List ℤ → ℕ → ℤ
   worth x l = objective (componentJob j l) (partOf j l x)
 
-  -- ---- the order, group by group
-  -- the first place where two lists differ is also the first where their parts in the group of that variable do
+  -- ---- the order, component by component
+  -- the first place where two lists differ is also the first where their parts in the component of that variable do
   lower-part : (x y : List ℤ) → length x ≡ n → Lower x y → (l : ℕ) × (l < n) × Lower (partOf j l x) (partOf j l y)
   lower-part x y e h = (lowest j i, omega (arith, lowest-le j i, b), lower-at (partOf j (lowest j i) x) (partOf j (lowest j i) y) i long long′ same less)
     where
@@ -186,12 +186,12 @@ module _ (j : Job) where
       go (inr (inr h)) = let (l, k, q) = o .part y x b h in absurd (clash l (f l k) q)
 
   -- ---- the best of the job
-  -- the choice in the family of the group of l
+  -- the choice in the family of the component of l
   abbrev pub choiceIn : ℕ → List ℤ
   choiceIn l = let c = componentJob j l in member c (choice (slope c) (fits c))
 
   module _ (named : (e : Equation) → e ∈ j .equations → (e .left < length (j .variables)) × (e .right < length (j .variables))) where
-    -- the best of each group, put together, is the best of the job
+    -- the best of each component, put together, is the best of the job
     module _ (f : ℕ → List ℤ) (o : (l : ℕ) → l ∈ leads j → Optimal (componentJob j l) (f l)) where
       abbrev x : List ℤ
       x = assembled j f
@@ -211,7 +211,7 @@ module _ (j : Job) where
                 (o l m .beats (partOf j l y) (part-solution j named l y s))
             go (no d) = inl (part-nothing l y x d)
 
-        -- no group of y is worth more
+        -- no component of y is worth more
         no-more : (l : ℕ) → l < n → (worth y l -ℤ worth x l) ≤ℤ pos 0
         no-more l h = lin (worth y l ∷ worth x l ∷ []) (at-most (objective (componentJob j l)) (part-beats l h)) (search facts depth 20) (omega arith)
 
@@ -223,7 +223,7 @@ module _ (j : Job) where
             lin (sum n (λ l. worth y l -ℤ worth x l) ∷ objective j y ∷ objective j x ∷ [])
             (total & sum-nonpos n (λ l. worth y l -ℤ worth x l) no-more) (search facts depth 20) (omega arith)
 
-        -- so where y is worth as much as x, each group of it is
+        -- so where y is worth as much as x, each component of it is
         each-equal : objective j y ≡ objective j x → (l : ℕ) → l < n → worth y l ≡ worth x l
         each-equal e l h = lin (worth y l ∷ worth x l ∷ []) (zero l h) (search facts depth 20) (omega arith)
           where
@@ -233,7 +233,7 @@ module _ (j : Job) where
             zero : (l : ℕ) → l < n → worth y l -ℤ worth x l ≡ pos 0
             zero = sum-nonpos-zero n (λ l. worth y l -ℤ worth x l) no-more (total ∙ none)
 
-        -- and the first place where they differ decides as it does in its group
+        -- and the first place where they differ decides as it does in its component
         among-level : objective j y ≡ objective j x → (y ≡ x) ⊎ Earlier x y
         among-level e =
             parts-earlier earlier-by-parts x y (assembled-solves .long) (s .long)
@@ -253,21 +253,21 @@ module _ (j : Job) where
       pub assembled-optimal : Optimal j (assembled j f)
       assembled-optimal = record { solution = assembled-solves; beats = assembled-beats }
 
-    -- so where every group has a solution, `best` is what the groups' own `best` make
+    -- so where every component has a solution, `best` is what the components' own `best` make
     pub best-assembled : ((l : ℕ) → l ∈ leads j → (x : List ℤ) × IsSolution (componentJob j l) x) → best j ≡ assembled j (λ l. best (componentJob j l))
     best-assembled some = sym (best-only j (assembled j (λ l. best (componentJob j l))) (assembled-optimal (λ l. best (componentJob j l)) each))
       where
         each : (l : ℕ) → l ∈ leads j → Optimal (componentJob j l) (best (componentJob j l))
         each l m = let (x, s) = some l m in best-is (componentJob j l) x s
 
-    -- a job has a solution exactly when no group is without one
+    -- a job has a solution exactly when no component is without one
     pub solvable-iff : ((x : List ℤ) × IsSolution j x) ↔ ((l : ℕ) → l ∈ leads j → fits (componentJob j l) ≢ 0)
     solvable-iff = Iff·trans (some-iff j named) (to, λ f l m. fits-some (componentJob j l) (f l m))
       where
         to : ((l : ℕ) → l ∈ leads j → (x : List ℤ) × IsSolution (componentJob j l) x) → (l : ℕ) → l ∈ leads j → fits (componentJob j l) ≢ 0
         to f l m e = let (x, s) = f l m in fits-iff (componentJob j l) .0 e x s
 
-    -- where the solutions of each group are a family and none is without one, the choices make the best of the job
+    -- where the solutions of each component are a family and none is without one, the choices make the best of the job
     module _ (family : (l : ℕ) → l ∈ leads j → IsFamily j l) (some : (l : ℕ) → l ∈ leads j → fits (componentJob j l) ≢ 0) where
       pub plan-optimal : Optimal j (assembled j choiceIn)
       plan-optimal = assembled-optimal choiceIn (λ l m. choice-optimal (componentJob j l) (family l m .all) (omega (arith, some l m)))

@@ -1,4 +1,4 @@
--- An equation inside a group (01's ring): it is redundant, or it leaves one index or none.
+-- An equation inside a component (01's ring): it is redundant, or it leaves one index or none.
 use mathlib.Core.Path.{_≡_, refl, sym, _∙_, ap}
 use mathlib.Core.Logic.{_↔_, _≢_, Iff·trans}
 use mathlib.Core.Bool.{Bool, true, false, cond, false≢true}

@@ -22,7 +22,7 @@ use Rattle.families.proofs.InvariantStep.{Named, advance}
 use Rattle.families.proofs.StateStep.{same-label, redundant, changed}
 use Rattle.families.proofs.StartState.{start-lengths, begins}
 
--- a group and a run for each variable
+-- a component and a run for each variable
 pub record Sized (j : Job) (s : State) : Type 0 where
   pub labels : length (s .labels) ≡ length (j .variables)
   pub runs : length (s .runs) ≡ length (j .variables)

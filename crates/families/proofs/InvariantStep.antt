@@ -1,5 +1,5 @@
--- One equation more, in general: the invariant goes on where the family of the joined group is what both groups and the
--- equation leave, and every other group stays as it was.
+-- One equation more, in general: the invariant goes on where the family of the joined component is what both components and the
+-- equation leave, and every other component stays as it was.
 use mathlib.Core.Path.{_≡_, refl, sym, _∙_, ap, subst}
 use mathlib.Core.Logic.{_↔_, _⊎_, inl, inr, ⊎-elim, _≢_, Iff·trans, Iff·symm}
 use mathlib.Core.List.{List}
@@ -20,12 +20,12 @@ use Rattle.families.specs.Invariant.{Keeps, IsMember, OnFamily, Invarian
 use Rattle.families.proofs.Subfamily.{index-only}
 use Rattle.families.proofs.Labels.{leftLabel, rightLabel, newLabel, InEither, new-is, to-new, from-new, from-other, to-other, apart}
 
--- a member is on the family: at the group's lowest variable there is one index only
+-- a member is on the family: at the component's lowest variable there is one index only
 pub on-family : {j : Job} {m : ℕ} {run : ℕ → Run} {g k : ℕ} {x : List ℤ} → g < length (j .variables) → lowestBy j m g ≡ g → FamilyRun (run g) →
     IsMember j m run g k x → OnFamily j m run g x
 on-family {g} {k} b s f h = record { k = k; is = h; only = λ k′ h′. index-only (f .moves) (h′ .below) (h .below) (sym (h′ .at g b s) ∙ h .at g b s) }
 
--- x is on the families of both groups of equation m, and keeps it
+-- x is on the families of both components of equation m, and keeps it
 abbrev pub OnBoth : (j : Job) → ℕ → (ℕ → Run) → List ℤ → Type 0
 OnBoth j m run x = OnFamily j m run (leftLabel j m) x × OnFamily j m run (rightLabel j m) x × (value (equation j m) x ≡ equation j m .c)
 
@@ -37,7 +37,7 @@ pub record Step (j : Job) (m : ℕ) (run run′ : ℕ → Run) : Type 0 where
   pub rises : 2 ≤ run′ (newLabel j m) .many → pos 0 <ℤ run′ (newLabel j m) .step
   pub family : (x : List ℤ) → OnFamily j (suc m) run′ (newLabel j m) x ↔ OnBoth j m run x
 
--- ---- the groups of an equation that names variables of the job
+-- ---- the components of an equation that names variables of the job
 pub record Named (j : Job) (m : ℕ) : Type 0 where
   pub left : equation j m .left < length (j .variables)
   pub right : equation j m .right < length (j .variables)
@@ -65,12 +65,12 @@ module _ {j : Job} {m : ℕ} (named : Named j m) where
       go (inl e) = inl (ap (lowestBy j m) e ∙ left-self)
       go (inr e) = inr (ap (lowestBy j m) e ∙ right-self)
 
--- ---- what the bounds and the equations ask of the joined group: what they ask of both, and equation m
+-- ---- what the bounds and the equations ask of the joined component: what they ask of both, and equation m
 module _ (j : Job) (m : ℕ) (x : List ℤ) where
   abbrev KeepsBoth : Type 0
   KeepsBoth = Keeps j m (leftLabel j m) x × Keeps j m (rightLabel j m) x × (value (equation j m) x ≡ equation j m .c)
 
-  -- a group whose variables all come into the new one
+  -- a component whose variables all come into the new one
   part : (g : ℕ) → ((i : ℕ) → lowestBy j m i ≡ g → lowestBy j (suc m) i ≡ newLabel j m) → Keeps j (suc m) (newLabel j m) x → Keeps j m g x
   part g to q = record { low = λ i h l. q .low i h (to i l); high = λ i h l. q .high i h (to i l); holds = λ k h l. q .holds k (omega arith) (to (equation j k .left) l) }
 
@@ -93,7 +93,7 @@ module _ (j : Job) (m : ℕ) (x : List ℤ) where
       holds p q e k h (yes z) l = rw z e
       holds p q e k h (no z) l = ⊎-elim (p .holds k (omega arith)) (q .holds k (omega arith)) l
 
--- ---- another group g
+-- ---- another component g
 module _ {j : Job} {m : ℕ} (g : ℕ) (n : g ≢ newLabel j m) (s : lowestBy j (suc m) g ≡ g) where
   keeps-other : (x : List ℤ) → Keeps j (suc m) g x ↔ Keeps j m g x
   keeps-other x = (
@@ -161,7 +161,7 @@ advance {j} {m} {s} {s′} named inv S labels = record {
     below : (i : ℕ) → i < length (j .variables) → lowestBy j (suc m) i < length (j .variables)
     below i h = omega (arith, lowestBy-le j (suc m) i)
 
-    -- a variable of another group
+    -- a variable of another component
     old : (i : ℕ) → lowestBy j (suc m) i ≢ newLabel j m → lowestBy j m i ≡ lowestBy j (suc m) i
     old i n = from-other j m (lowestBy j (suc m) i) n i refl
 

@@ -1,5 +1,5 @@
--- An equation between two groups: `join` has just the pairs of indices into their families at which it holds, each once, and
--- the indices of the group that keeps its lowest variable rise.
+-- An equation between two components: `join` has just the pairs of indices into their families at which it holds, each once, and
+-- the indices of the component that keeps its lowest variable rise.
 use mathlib.Core.Path.{_≡_, refl, sym, _∙_, ap, ap₂, subst}
 use mathlib.Core.Logic.{_↔_, _≢_, Iff·trans, Iff·symm}
 use mathlib.Core.Bool.{Bool, true, false, cond, false≢true}
@@ -221,6 +221,6 @@ module _ {e : Form} (lim : CarryLimits e) {P Q : Run} (f : FamilyRun P) (g : Fam
   pub join-pairs : (lower : Bool) → Pairs e P Q (join e P Q (commonNumbers e P Q) lower)
   join-pairs lower = joined known lower .pairs
 
-  -- and the indices of the group that keeps its lowest variable rise
+  -- and the indices of the component that keeps its lowest variable rise
   pub join-rises : (lower : Bool) → 2 ≤ join e P Q (commonNumbers e P Q) lower .left .many → pos 0 <ℤ leading lower (join e P Q (commonNumbers e P Q) lower) .step
   join-rises lower = joined known lower .rises

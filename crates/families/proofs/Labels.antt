@@ -1,4 +1,4 @@
--- One equation more, of the groups' labels: those of its two variables become the lower of them, and every other stays.
+-- One equation more, of the components' labels: those of its two variables become the lower of them, and every other stays.
 use mathlib.Core.Path.{_≡_, refl, sym, _∙_, ap}
 use mathlib.Core.Logic.{_⊎_, inl, inr, _≢_}
 use Prim.Native.Nat.{ℕ, suc, min}
@@ -8,7 +8,7 @@ use Rattle.jobs.specs.Component.{merged, lowestBy}
 use Rattle.jobs.proofs.Components.{merged-one, Merged, first, second, other, merged-cases}
 
 module _ (j : Job) (m : ℕ) where
-  -- the groups of equation m's variables, and the one that they become
+  -- the components of equation m's variables, and the one that they become
   abbrev pub leftLabel : ℕ
   leftLabel = lowestBy j m (equation j m .left)
 
@@ -40,7 +40,7 @@ module _ (j : Job) (m : ℕ) where
       go (second e l) = from-right e (next-label i ∙ l)
       go (other a b l) = stays a b (next-label i ∙ l)
 
-  -- the new group is one of the two
+  -- the new component is one of the two
   pub new-is : (newLabel ≡ leftLabel) ⊎ (newLabel ≡ rightLabel)
   new-is = min-cases leftLabel rightLabel ((newLabel ≡ leftLabel) ⊎ (newLabel ≡ rightLabel)) (λ l e. inl e) (λ l e. inr e)
 
@@ -57,7 +57,7 @@ module _ (j : Job) (m : ℕ) where
       go (stays a b c) (inl k) = inl (sym c ∙ h ∙ k)
       go (stays a b c) (inr k) = inr (sym c ∙ h ∙ k)
 
-  -- another group
+  -- another component
   module _ (g : ℕ) (n : g ≢ newLabel) where
     -- has the variables that it had
     pub from-other : (i : ℕ) → lowestBy j (suc m) i ≡ g → lowestBy j m i ≡ g

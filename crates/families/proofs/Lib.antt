@@ -11,13 +11,13 @@ pub mod ExactQuotients
 pub mod JoinedRuns
 -- part of a family: the members at some of its indices
 pub mod Subfamily
--- an equation inside a group
+-- an equation inside a component
 pub mod CycleStep
--- an equation between two groups
+-- an equation between two components
 pub mod JoinStep
 -- what one equation leaves, in one form for both
 pub mod OneEquation
--- the groups' labels, one equation more
+-- the components' labels, one equation more
 pub mod Labels
 -- one equation more, in general
 pub mod InvariantStep
@@ -27,15 +27,15 @@ pub mod StateStep
 pub mod StartState
 -- the invariant after any number of equations
 pub mod InvariantHolds
--- the solutions of a group, in order, are the members of its family
+-- the solutions of a component, in order, are the members of its family
 pub mod SolutionsAreMembers
 -- how large the numbers of a family are
 pub mod FamilySizes
 -- the model ends in the definitions
 pub mod ModelIsExact
--- the best of one group: the last of its family where the gain is above 0, and the first elsewhere
+-- the best of one component: the last of its family where the slope is above 0, and the first elsewhere
 pub mod BestOfComponent
--- the best of the whole job: the best of each group, put together
+-- the best of the whole job: the best of each component, put together
 pub mod BestOfJob
 -- the best of a lawful job, by what the model ends in
 pub mod PlanIsBest
@@ -43,5 +43,5 @@ pub mod PlanIsBest
 pub mod ModelFindings
 -- document 01's ten jobs marked *: bytes in, verdict and whole sheet out
 pub mod MarkedJobs
--- what a planned sheet says of the groups: the second demand
+-- what a planned sheet says of the components: the second demand
 pub mod SheetFamilies

@@ -1,5 +1,5 @@
 -- The planner's last steps are the definitions: where each variable's label and run are those of the definitions, so are the
--- choices, the worth and all that is found; and the model's own verdict and sheet are `verdict` and `sheet`.
+-- choices, the objective and all that is found; and the model's own verdict and sheet are `verdict` and `sheet`.
 use mathlib.Core.Path.{_≡_, refl, sym, _∙_, ap, ap₂, subst}
 use mathlib.Core.Logic.{_≢_}
 use mathlib.Core.Bool.{Bool, true, false}
@@ -48,7 +48,7 @@ module _ (j : Job) (lawful : LawfulJob j) (g : ℕ → ℕ) (r : ℕ → Run) (t
   abbrev n : ℕ
   n = length (j .variables)
 
-  -- ---- the groups
+  -- ---- the components
   pub leads-by : leadsBy g (length (j .variables)) ≡ leads j
   unfolding leadsBy leads
   leads-by = keep-same (λ i. eqb (g i) i) (λ i. eqb (lowest j i) i) (upTo n) (λ i m. ap (λ l. eqb l i) (told i (in-upTo n i .0 m) .0))
@@ -70,7 +70,7 @@ module _ (j : Job) (lawful : LawfulJob j) (g : ℕ → ℕ) (r : ℕ → Run) (t
       ap (firstOf (λ l. equal? (r l .many) 0)) leads-by
       ∙ first-same (λ l. equal? (r l .many) 0) (λ l. equal? (fits (componentJob j l)) 0) (leads j) (λ l m. (λ e. sym (many-by l m) ∙ e, λ e. many-by l m ∙ e))
 
-  -- ---- the gains and the choices, where w gives each variable's weight
+  -- ---- the slopes and the choices, where w gives each variable's weight
   module _ (w : ℕ → ℤ) (weights : (i : ℕ) → i < length (j .variables) → w i ≡ variable j i .weight) where
     weighed : (i l : ℕ) → i < n → pick (eqb (g i) l) (w i *ℤ r i .step) ≡ pick (eqb (lowest j i) l) (variable j i .weight *ℤ r i .step)
     weighed i l h = ap₂ (λ k x. pick (eqb k l) (x *ℤ r i .step)) (told i h .0) (weights i h)
@@ -118,7 +118,7 @@ module _ (j : Job) (lawful : LawfulJob j) (g : ℕ → ℕ) (r : ℕ → Run) (t
           leads-below : (l : ℕ) → l ∈ leadsBy g n → l < n
           leads-below l m = in-leads j l .0 (subst (λ ls. l ∈ ls) leads-by m) .0
 
--- the gain of a group fits its field
+-- the slope of a component fits its field
 pub slope-within : (j : Job) → LawfulJob j → (l : ℕ) → Within (length (j .variables) * (1000000 * (2 * bound))) (slope (componentJob j l))
 unfolding slopeBy
 slope-within j lawful l =

@@ -1,4 +1,4 @@
--- What the model ends in is what the definitions say: the groups, and base, step and fits of each group's solutions.
+-- What the model ends in is what the definitions say: the components, and base, step and fits of each component's solutions.
 use mathlib.Core.Path.{_≡_, refl, sym, _∙_, ap, ap₂, subst}
 use mathlib.Core.Logic.{_↔_, _⊎_, inl, inr, _≢_}
 use mathlib.Core.List.{List, [], _∷_}
@@ -39,11 +39,11 @@ advance-few [] i h = refl
 advance-few (x ∷ []) i h = refl
 advance-few (x ∷ y ∷ zs) i h = absurd (omega arith)
 
--- base, step and fits of a group's own job c, at variable i
+-- base, step and fits of a component's own job c, at variable i
 abbrev pub readOff : Job → ℕ → Run
 readOff c i = record { first = number (base c) i; step = number (step c) i; many = fits c }
 
--- ---- the group of l, after all equations
+-- ---- the component of l, after all equations
 module _ {j : Job} {s : State} (inv : Invariant j (length (j .equations)) s) {l : ℕ} (b : l < length (j .variables)) (self : lowest j l ≡ l) where
   abbrev c : Job
   c = componentJob j l
@@ -61,7 +61,7 @@ module _ {j : Job} {s : State} (inv : Invariant j (length (j .equations)) s) {l 
   unfolding fits
   fits-is = long
 
-  -- many and the form, of a variable of the group
+  -- many and the form, of a variable of the component
   own-many : (i : ℕ) → i < length (j .variables) → lowest j i ≡ l → runAt s i .many ≡ runAt s l .many
   own-many i h e = inv .many i h ∙ ap (λ g. runAt s g .many) (sym (lowest-is j i) ∙ e)
 
@@ -122,7 +122,7 @@ module _ {j : Job} {s : State} (inv : Invariant j (length (j .equations)) s) {l 
   step-past i h = List·getD-eq-default (table (advance (solutions c)) (length (c .variables))) (pos 0)
       (omega (arith, h, length-table (advance (solutions c)) (length (c .variables)), component-length j l))
 
-  -- ---- the group's solutions are a family
+  -- ---- the component's solutions are a family
   is-family : IsFamily j l
   is-family = record { all = listing; rises = rises; rests = rests; moves = moves }
     where
@@ -133,7 +133,7 @@ module _ {j : Job} {s : State} (inv : Invariant j (length (j .equations)) s) {l 
       listing : solutions c ≡ table (member c) (fits c)
       listing = all ∙ same-table [] (listed j l (runAt s)) (member c) (sym fits-is) (λ k h. same k)
 
-      -- the step of a variable of the group
+      -- the step of a variable of the component
       inside : (i : ℕ) → i < length (j .variables) → lowest j i ≡ l → number (step c) i ≡ runAt s i .step
       inside i h e = step-at i h ∙ ap (λ r. r .step) (own-inside j l (runAt s) i e)
 
@@ -166,7 +166,7 @@ module _ (j : Job) (lawful : LawfulJob j) where
   unfolding stateAfterAll
   last-invariant = invariant j lawful (length (j .equations)) (omega arith)
 
-  -- it has the groups and the families of the definitions
+  -- it has the components and the families of the definitions
   pub exact : (i : ℕ) → i < length (j .variables) → (labelAt (stateAfterAll j) i ≡ lowest j i) × (runAt (stateAfterAll j) i ≡ familyRun j i)
   exact i h = (
     last-invariant .labels i h ∙ sym (lowest-is j i),
@@ -177,7 +177,7 @@ module _ (j : Job) (lawful : LawfulJob j) where
   family-form i h = subst FamilyRun (exact i h .1 ∙ family-run-is j i) (last-invariant .form i h)
 
   module _ (l : ℕ) (lead : l ∈ leads j) where
-    -- every group's solutions are base + step·k, in order
+    -- every component's solutions are base + step·k, in order
     pub are-families : IsFamily j l
     are-families = let (b, e) = in-leads j l .0 lead in is-family last-invariant b e
 

@@ -17,7 +17,7 @@ use Rattle.families.proofs.Subfamily.{Holds, Picks, pick, pick-is, pick
 use Rattle.families.proofs.CycleStep.{Remains, cycle-leaves}
 use Rattle.families.proofs.JoinStep.{At, Pairs, join-pairs, join-rises}
 
--- i has just the pairs of indices into P and Q at which the equation holds; where P and Q are of one group, l and r are the
+-- i has just the pairs of indices into P and Q at which the equation holds; where P and Q are of one component, l and r are the
 -- same, and only an index and itself is a pair
 pub record Leaves (e : Form) (l r : ℕ) (P Q : Run) (i : Indices) : Type 0 where
   pub left : Picks (i .left) (P .many)

@@ -1,4 +1,4 @@
--- For a lawful job in which no group is without a solution: the choices of its groups, put together, are its best solution.
+-- For a lawful job in which no component is without a solution: the choices of its components, put together, are its best solution.
 use mathlib.Core.Path.{_≡_, sym, _∙_, ap}
 use mathlib.Core.Logic.{_≢_}
 use Prim.Native.Nat.{ℕ, _<_}
@@ -22,7 +22,7 @@ use Rattle.families.proofs.BestOfJob.{choiceIn, plan-optimal, plan-best
 
 module _ (j : Job) (lawful : LawfulJob j) where
   module _ (fit : (l : ℕ) → l ∈ leads j → fits (componentJob j l) ≢ 0) where
-    -- the chosen k of a group
+    -- the chosen k of a component
     pub choice-in : (l : ℕ) → l ∈ leads j → chosen (componentJob j l) ≡ choice (slope (componentJob j l)) (fits (componentJob j l))
     choice-in l m = chosen-is (componentJob j l) (are-families j lawful l m .all) (omega (arith, fit l m))
 

@@ -1,5 +1,5 @@
--- The second demand: base, steps and fits as they stand on a planned sheet give every solution of a group exactly once, and each
--- variable's number stands at its group's chosen k.
+-- The second demand: base, steps and fits as they stand on a planned sheet give every solution of a component exactly once, and each
+-- variable's number stands at its component's chosen k.
 use mathlib.Core.Path.{_≡_, refl, sym, _∙_, ap, ap₂, subst}
 use mathlib.Core.Logic.{_↔_, _≢_, Iff·trans}
 use mathlib.Core.Bool.{cond}
@@ -44,7 +44,7 @@ slope-is : (c : Job) → slope c ≡ objective c (step c)
 unfolding slope
 slope-is c = refl
 
--- ---- the sheet of a lawful job in which no group is without a solution, with anything behind it
+-- ---- the sheet of a lawful job in which no component is without a solution, with anything behind it
 module _ (j : Job) (lawful : LawfulJob j) (full : firstWithout j ≡ none) (rest : List ℕ) where
   abbrev after : List ℕ
   after = laidOut (findings j) ++ rest
@@ -61,7 +61,7 @@ module _ (j : Job) (lawful : LawfulJob j) (full : firstWithout j ≡ none) (rest
   chosen-below : (l : ℕ) → l ∈ leads j → chosen (componentJob j l) < fits (componentJob j l)
   chosen-below l m = let c = componentJob j l in subst (λ k. k < fits c) (sym (choice-in j lawful fit l m)) (choice-below (slope c) (fits c) (omega (arith, fit l m)))
 
-  -- ---- what stands in each field of the rows of variable i and of its group
+  -- ---- what stands in each field of the rows of variable i and of its component
   module _ (i : ℕ) (h : i < length (j .variables)) where
     run-is : familyRun j i ≡ readOff (own i) i
     run-is = family-run-is j i
@@ -81,7 +81,7 @@ module _ (j : Job) (lawful : LawfulJob j) (full : firstWithout j ≡ none) (rest
     group-on : groupOn after i ≡ component j i
     group-on = let f = laidOut-back j rest (omega (arith, lawful .variables)) .groups in group-is j (u16 after 6) (groupOn after) f i h
 
-  -- ---- the group of l
+  -- ---- the component of l
   module _ (l : ℕ) (m : l ∈ leads j) where
     abbrev c : Job
     c = componentJob j l
@@ -130,7 +130,7 @@ module _ (j : Job) (lawful : LawfulJob j) (full : firstWithout j ≡ none) (rest
     own-step : (i : ℕ) → i < n → lowest j i ≡ l → stepOn after i ≡ number (step c) i
     own-step i h e = step-on i h ∙ ap (λ k. number (step (componentJob j k)) i) e
 
-    -- what the sheet has in the group, and 0 elsewhere
+    -- what the sheet has in the component, and 0 elsewhere
     module _ (f : ℕ → ℤ) where
       part-at : (i : ℕ) → i < n → number (partOn j after g f) i ≡ cond (eqb (groupOn after i) g) (f i) (pos 0)
       part-at i h = table-at (λ i. cond (eqb (groupOn after i) g) (f i) (pos 0)) n i (pos 0) h

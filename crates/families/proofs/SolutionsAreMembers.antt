@@ -1,4 +1,4 @@
--- At the end: the solutions of a group's own job, in order, are the members of its family.
+-- At the end: the solutions of a component's own job, in order, are the members of its family.
 use mathlib.Core.Path.{_≡_, refl, sym, _∙_, ap, subst}
 use mathlib.Core.Logic.{_≢_, Iff·trans, Iff·symm}
 use mathlib.Core.Bool.{cond}
@@ -41,7 +41,7 @@ unfolding lowest
 lowest-is j i = refl
 
 module _ (j : Job) (l : ℕ) where
-  -- ---- a solution of the group's own job keeps what the group asks, and is 0 elsewhere
+  -- ---- a solution of the component's own job keeps what the component asks, and is 0 elsewhere
   module _ (x : List ℤ) where
     own-bounds : (i : ℕ) → i < length (j .variables) → IsSolution (componentJob j l) x → Between (variable (componentJob j l) i) (number x i)
     own-bounds i h s = let b : i < length (componentJob j l .variables) = omega (arith, component-length j l) in (s .low i b, s .high i b)
@@ -74,7 +74,7 @@ module _ (j : Job) (l : ℕ) where
         holds = each-iff (λ e. lowest j (e .left) ≡ l → value e x ≡ e .c) (j .equations) noEquation .0
             (λ k h z. q .holds k h (sym (lowest-is j (equation j k .left)) ∙ z))
 
-  -- ---- the members of the family as lists, with 0 for the variables of other groups
+  -- ---- the members of the family as lists, with 0 for the variables of other components
   module _ (run : ℕ → Run) where
     abbrev pub ownRun : ℕ → Run
     ownRun i = cond (eqb (lowest j i) l) (run i) empty
@@ -97,7 +97,7 @@ module _ (j : Job) (l : ℕ) where
     listed-outside : (k i : ℕ) → i < length (j .variables) → lowest j i ≢ l → number (listed k) i ≡ pos 0
     listed-outside k i h n = listed-at k i h ∙ ap (λ r. nth r k) (own-outside i n) ∙ at-rest (pos 0) (pos 0) k refl
 
--- ---- after all equations, the group of l
+-- ---- after all equations, the component of l
 module _ {j : Job} {s : State} (inv : Invariant j (length (j .equations)) s) {l : ℕ} (b : l < length (j .variables)) (self : lowest j l ≡ l) where
   abbrev run : ℕ → Run
   run = runAt s
@@ -126,7 +126,7 @@ module _ {j : Job} {s : State} (inv : Invariant j (length (j .equations)) s) {l 
       at i a (yes e) = o .is .at i a (sym (lowest-is j i) ∙ e) ∙ sym (listed-inside j l run (o .k) i a e)
       at i a (no n) = outside-zero j l x h i a n ∙ sym (listed-outside j l run (o .k) i a n)
 
-  -- they rise: the first variable of the group is its lowest, and it rises
+  -- they rise: the first variable of the component is its lowest, and it rises
   listed-rises : (k k′ : ℕ) → k < k′ → k′ < run l .many → Lower (listed j l run k) (listed j l run k′)
   listed-rises k k′ h h′ = lower-at (listed j l run k) (listed j l run k′) l (long k) (long k′) before here
     where

@@ -1,4 +1,4 @@
--- Before any equation: each variable is a group of its own, with all numbers from its low to its high.
+-- Before any equation: each variable is a component of its own, with all numbers from its low to its high.
 use mathlib.Core.Path.{_≡_, refl, sym, _∙_, ap, subst}
 use mathlib.Core.Logic.{_↔_, Iff·trans}
 use mathlib.Core.Bool.{Bool, true, false, cond}

@@ -1,5 +1,5 @@
 -- The two ways in which an equation changes the runs: not at all where it is redundant, and else to the members at the
--- indices that it leaves. Either way the joined group's family is what both groups and the equation leave.
+-- indices that it leaves. Either way the joined component's family is what both components and the equation leave.
 use mathlib.Core.Path.{_≡_, refl, sym, _∙_, ap, ap₂, subst}
 use mathlib.Core.Logic.{inl, inr, ⊎-elim, _≢_}
 use mathlib.Core.Bool.{Bool, true, false}
@@ -35,7 +35,7 @@ mul-above x y h k =
     let b : pos 1 ≤ℤ y = lin (y ∷ []) k (search facts depth 20) (omega arith) in
     lin (x ∷ y ∷ []) (prod a b & a & b) (search facts depth 20) (omega arith)
 
--- ---- one of the two groups, with lowest variable g: its members are taken at the indices x
+-- ---- one of the two components, with lowest variable g: its members are taken at the indices x
 record Side (j : Job) (m : ℕ) (s : State) (run′ : ℕ → Run) (g : ℕ) (x : Run) : Type 0 where
   below : g < length (j .variables)
   self : lowestBy j m g ≡ g
@@ -43,7 +43,7 @@ record Side (j : Job) (m : ℕ) (s : State) (run′ : ℕ → Run) (g : ℕ) (x 
   taken : (i : ℕ) → i < length (j .variables) → lowestBy j m i ≡ g → run′ i ≡ through (runAt s i) x
 
 module _ {j : Job} {m : ℕ} {s : State} (inv : Invariant j m s) {run′ : ℕ → Run} {g : ℕ} {x : Run} (o : Side j m s run′ g x) where
-  -- many is the same in all of a group, so the indices go for each of its variables
+  -- many is the same in all of a component, so the indices go for each of its variables
   picks-at : (i : ℕ) → i < length (j .variables) → lowestBy j m i ≡ g → Picks x (runAt s i .many)
   picks-at i h e = subst (Picks x) (sym (inv .many i h ∙ ap (λ g. runAt s g .many) e)) (o .picks)
 
@@ -62,7 +62,7 @@ module _ {j : Job} {m : ℕ} {s : State} (inv : Invariant j m s) {run′ : ℕ �
       let e : run′ g .step ≡ runAt s g .step *ℤ x .step = ap (λ r. r .step) (o .taken g (o .below) (o .self)) ∙ through-step (runAt s g) x (omega arith) in
       subst (λ y. pos 0 <ℤ y) (sym e) (mul-above (runAt s g .step) (x .step) (inv .rises g (o .below) (o .self) (two-to-pick (o .picks) t)) h)
 
-  -- number t of those taken is number `pick x t` of the group's family
+  -- number t of those taken is number `pick x t` of the component's family
   was-member : {t : ℕ} {y : List ℤ} → t < x .many → ((i : ℕ) → i < length (j .variables) → lowestBy j m i ≡ g → number y i ≡ nth (run′ i) t) → IsMember j m (runAt s) g (pick x t) y
   was-member b at = record { below = pick-below (o .picks) b; at = λ i h e. at i h e ∙ taken-at b i h e }
 
@@ -79,7 +79,7 @@ module _ {j : Job} {m : ℕ} {s : State} (named : Named j m) (inv : Invariant j 
   right-many : Q .many ≡ runAt s (rightLabel j m) .many
   right-many = inv .many (equation j m .right) (named .right)
 
-  -- ---- a redundant equation: the groups are one already, and it holds at every index
+  -- ---- a redundant equation: the components are one already, and it holds at every index
   module _ (one : leftLabel j m ≡ rightLabel j m) (all : (k : ℕ) → Holds (form (equation j m)) (nth P k) (nth Q k)) where
     new-left : newLabel j m ≡ leftLabel j m
     new-left = ⊎-elim (λ e. e) (λ e. e ∙ sym one) (new-is j m)
@@ -95,7 +95,7 @@ module _ {j : Job} {m : ℕ} {s : State} (named : Named j m) (inv : Invariant j 
     new-old : lowestBy j m (newLabel j m) ≡ newLabel j m
     new-old = sym (same-label (newLabel j m)) ∙ new-self named
 
-    -- a member of the group's family before is one after, and keeps the equation
+    -- a member of the component's family before is one after, and keeps the equation
     was-on : (x : List ℤ) → OnFamily j (suc m) (runAt s) (newLabel j m) x → OnFamily j m (runAt s) (leftLabel j m) x
     was-on x o = on-family (left-below named) (left-self named) (inv .form (leftLabel j m) (left-below named)) (record {
       below = subst (λ g. o .k < runAt s g .many) new-left (o .is .below);

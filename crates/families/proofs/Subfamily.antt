@@ -122,7 +122,7 @@ module _ {r s : Run} (f : FamilyRun r) (p : Picks s (r .many)) where
           let l : h .place < s .many = subst (λ n. h .place < n) (through-many r s) (h .below) in
           record { place = pick s (h .place); below = pick-below p l; is = h .is ∙ through-at r p l }
 
--- ---- the run of a variable in group g, of which l and r keep the members at their indices
+-- ---- the run of a variable in component g, of which l and r keep the members at their indices
 module _ (l r : ℕ) (i : Indices) (g : ℕ) (run : Run) where
   pub after-left : g ≡ l → runAfter l r i g run ≡ through run (i .left)
   after-left e = rw (eq-eqb g l e) refl

@@ -15,7 +15,7 @@ use Rattle.jobs.specs.Solution.{number, solutions}
 use Rattle.jobs.specs.Component.{lowest}
 use Rattle.jobs.specs.Family.{componentJob, fits, base, step}
 
--- base + step·k, of a group's own job c
+-- base + step·k, of a component's own job c
 abbrev pub member : Job → ℕ → List ℤ
 member c k = table (λ i. number (base c) i +ℤ number (step c) i *ℤ pos k) (length (c .variables))
 

@@ -1,4 +1,4 @@
--- The run of a variable in the family of its group: its step may have either sign. And where its numbers stand in another.
+-- The run of a variable in the family of its component: its step may have either sign. And where its numbers stand in another.
 use mathlib.Core.Path.{_≡_}
 use mathlib.Core.Logic.{_≢_}
 use mathlib.Core.Bool.{cond}

@@ -1,8 +1,8 @@
 -- What the theorems say, and the model. Read in this order.
 
--- the solutions of a group as a family, and the choice in it
+-- the solutions of a component as a family, and the choice in it
 pub mod Family
--- a variable's run in the family of its group, and where its numbers stand in another
+-- a variable's run in the family of its component, and where its numbers stand in another
 pub mod FamilyRun
 -- the planner's steps as functions on lists
 pub mod Model

@@ -22,9 +22,9 @@ use Rattle.jobs.specs.Job.{Job, form, variable, equation}
 use Rattle.jobs.specs.Component.{merged}
 
 -- ---- the state, while equations are taken in
--- groups: of each variable, the lowest variable of its group so far.
--- runs: of each variable, its numbers in the family of its group so far. At k its number is first + step·k, for all k below
--- many; k and many are the group's, so that all its variables move together. A step may be negative; that of the group's
+-- components: of each variable, the lowest variable of its component so far.
+-- runs: of each variable, its numbers in the family of its component so far. At k its number is first + step·k, for all k below
+-- many; k and many are the component's, so that all its variables move together. A step may be negative; that of the component's
 -- lowest variable is not.
 pub record State : Type 0 where
   pub labels : List ℕ
@@ -36,7 +36,7 @@ labelAt s i = getD (s .labels) i 0
 abbrev pub runAt : State → ℕ → Run
 runAt s i = getD (s .runs) i empty
 
--- ---- before any equation: each variable is a group of its own, with all numbers from its low to its high
+-- ---- before any equation: each variable is a component of its own, with all numbers from its low to its high
 abbrev pub interval : ℤ → ℤ → Run
 interval low high = cond (ltZ high low) empty (progression low (pos 1) (natAbs (high -ℤ low)))
 
@@ -53,7 +53,7 @@ membersAt r indices = record { first = r .first +ℤ r .step *ℤ indices .first
 abbrev pub through : Run → Run → Run
 through r indices = cond (eqb (indices .many) 0) empty (membersAt r indices)
 
--- ---- an equation inside a group (01's ring). At p = P .first + P .step·k and q = Q .first + Q .step·k it says
+-- ---- an equation inside a component (01's ring). At p = P .first + P .step·k and q = Q .first + Q .step·k it says
 -- coefficient·k = residual.
 abbrev pub coefficient : Form → Run → Run → ℤ
 coefficient e P Q = e .a *ℤ P .step +ℤ e .b *ℤ Q .step
@@ -79,7 +79,7 @@ cycle e P Q =
     (cond (isEqual (residual e P Q) (pos 0)) none (some empty))
     (some (candidate (residual e P Q) (coefficient e P Q) (P .many)))
 
--- ---- an equation between two groups
+-- ---- an equation between two components
 -- the indices into the family of the left variable, and into that of the right
 pub record Indices : Type 0 where
   pub left : Run
@@ -112,7 +112,7 @@ directed leftLeads i = cond (ltZ (leading leftLeads i .step) (pos 0)) (downwards
 abbrev pub join : Form → Run → Run → Run → Bool → Indices
 join e P Q R leftLeads = cond (eqb (R .many) 0) (record { left = empty; right = empty }) (directed leftLeads (places e P Q R))
 
--- ---- one equation: what it leaves of the groups l and r of its variables, whose runs are P and Q. None where it is redundant.
+-- ---- one equation: what it leaves of the components l and r of its variables, whose runs are P and Q. None where it is redundant.
 abbrev pub bothSides : Option Run → Option Indices
 bothSides none = none
 bothSides (some s) = some (record { left = s; right = s })
@@ -121,7 +121,7 @@ unfoldable pub kept : Form → ℕ → ℕ → Run → Run → Option Indices
 unfolding commonNumbers floorDiv floorMod
 kept e l r P Q = cond (eqb l r) (bothSides (cycle e P Q)) (some (join e P Q (commonNumbers e P Q) (ltb l r)))
 
--- the run of a variable in group g after that
+-- the run of a variable in component g after that
 abbrev pub runAfter : ℕ → ℕ → Indices → ℕ → Run → Run
 runAfter l r i g run = cond (eqb g l) (through run (i .left)) (cond (eqb g r) (through run (i .right)) run)
 

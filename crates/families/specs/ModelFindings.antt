@@ -1,4 +1,4 @@
--- The planner's last steps as functions on lists: the choice in each group and the worth, from what is known of each variable, and
+-- The planner's last steps as functions on lists: the choice in each component and the objective, from what is known of each variable, and
 -- so the model's findings. Like the model of the families they compute, and nothing here has to be believed: proofs/ModelFindings.antt
 -- shows that they give `verdict` and `sheet`.
 use mathlib.Core.Option.{Option}
@@ -21,24 +21,24 @@ use Rattle.jobs.specs.Sheet.{areaAfter}
 use Rattle.families.specs.Family.{choice}
 use Rattle.families.specs.Model.{labelAt, runAt, stateAfterAll}
 
--- ---- the groups of n variables, where g gives the lowest variable of the group of each
+-- ---- the components of n variables, where g gives the lowest variable of the component of each
 unfoldable pub leadsBy : (ℕ → ℕ) → ℕ → List ℕ
 unfolding keep table
 leadsBy g n = keep (λ i. eqb (g i) i) (upTo n)
 
--- the number of a variable's group
+-- the number of a variable's component
 unfoldable pub componentBy : (ℕ → ℕ) → ℕ → ℕ → ℕ
 unfolding keep leadsBy
 componentBy g n i = length (keep (λ l. ltb l (g i)) (leadsBy g n))
 
--- the lowest variable of the first group whose family is empty, where r gives the run of each variable in the family of its group
+-- the lowest variable of the first component whose family is empty, where r gives the run of each variable in the family of its component
 unfoldable pub emptyBy : ℕ → (ℕ → ℕ) → (ℕ → Run) → Option ℕ
 unfolding firstOf leadsBy
 emptyBy n g r = firstOf (λ l. equal? (r l .many) 0) (leadsBy g n)
 
 -- ---- the choice, where w gives the weight of each variable
 module _ (n : ℕ) (w : ℕ → ℤ) (g : ℕ → ℕ) (r : ℕ → Run) where
-  -- of the group of l: the gain, and the index of the member that is chosen
+  -- of the component of l: the slope, and the index of the member that is chosen
   unfoldable pub slopeBy : ℕ → ℤ
   unfolding sum
   slopeBy l = sumOf g l n (λ i. w i *ℤ r i .step)

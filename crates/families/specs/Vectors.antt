@@ -22,7 +22,7 @@ use Rattle.jobs.specs.Component.{leads, componentCount}
 use Rattle.jobs.specs.Faults.{Answer, accepted, checked}
 use Rattle.jobs.specs.Verdict.{Verdict, planned, noFit, refused}
 use Rattle.jobs.specs.Demands.{baseOn, stepOn, groupOn, fitsOn}
-use Rattle.jobs.specs.JobBytes.{plus, minus, header, count, plain, equation, total, difference}
+use Rattle.jobs.specs.JobBytes.{plus, minus, header, count, plain, equationBytes, total, difference}
 use Rattle.jobs.specs.Vectors.{Vector, fitted, vectors}
 use Rattle.families.specs.Family.{choice}
 use Rattle.families.specs.Model.{State, labelAt, runAt, interval, through, candidate, cycle, Indices, commonNumbers, directed, kept, stateAfterAll}
@@ -62,9 +62,9 @@ jobM =
     count (plus 0) (plus 9) (minus 10) ++
     count (plus 2) (plus 5) (plus 0) ++
     -- 16·c0 − c1 = 0
-    equation 0 1 (plus 16) (minus 1) 0 ++
+    equationBytes 0 1 (plus 16) (minus 1) 0 ++
     -- 2·c0 − 3·c2 = 4
-    equation 0 2 (plus 2) (minus 3) 4
+    equationBytes 0 2 (plus 2) (minus 3) 4
 
 -- −1,000,000,000..1,000,000,000, weight 1,000,000
 abbrev widest : List ℕ
@@ -170,9 +170,9 @@ markedJobs =
     -- no counts
     record { job = header 0 0 24 24; labels = []; g = 0; runs = []; room = 24; verdict = planned (pos 0); sheet = emptySheet } ∷
     -- 2·c0 + 4·c1 = 7
-    without (once (plain 9) (plain 9) (equation 0 1 (plus 2) (plus 4) 7)) ∷
+    without (once (plain 9) (plain 9) (equationBytes 0 1 (plus 2) (plus 4) 7)) ∷
     -- 3·c0 − 5·c1 = 0: of 1..4 none is a multiple of 5
-    without (once (count (plus 1) (plus 4) (plus 0)) (plain 9) (equation 0 1 (plus 3) (minus 5) 0)) ∷
+    without (once (count (plus 1) (plus 4) (plus 0)) (plain 9) (equationBytes 0 1 (plus 3) (minus 5) 0)) ∷
     -- a ring whose single candidate is 3½ and 1½, and one where it is 3 and 2
     without (twice (plain 9) (plain 9) (total 0 1 5) (difference 0 1 2)) ∷
     tied (twice (plain 9) (plain 9) (total 0 1 5) (difference 0 1 1)) (run (pos 3) (pos 0) 1) (run (pos 2) (pos 0) 1) (planned (pos 0)) singleSheet ∷
@@ -180,7 +180,7 @@ markedJobs =
     tied (twice (plain 3) (plain 3) (difference 0 1 0) (difference 0 1 0)) (run (pos 0) (pos 1) 4) (run (pos 0) (pos 1) 4) (planned (pos 0)) redundantSheet ∷
     without (twice (plain 3) (plain 3) (difference 0 1 0) (difference 0 1 1)) ∷
     -- c0 + 2·c1 = 0
-    tied (once (count (minus 5) (plus 5) (plus 0)) (count (minus 3) (plus 3) (plus 1)) (equation 0 1 (plus 1) (plus 2) 0))
+    tied (once (count (minus 5) (plus 5) (plus 0)) (count (minus 3) (plus 3) (plus 1)) (equationBytes 0 1 (plus 1) (plus 2) 0))
     (run (negℤ (pos 4)) (pos 2) 5) (run (pos 2) (negℤ (pos 1)) 5) (planned (pos 2)) slantedSheet ∷
     -- the full range
     record {

@@ -56,11 +56,11 @@ module _ (z : ℤ) where
 
 -- ---- a job that no check turns away
 module _ (j : Job) (f : LawfulJob j) where
-  -- it has a solution exactly when each group has one
+  -- it has a solution exactly when each component has one
   groups-iff : ((x : List ℤ) × IsSolution j x) ↔ ((l : ℕ) → l ∈ leads j → (x : List ℤ) × IsSolution (componentJob j l) x)
   groups-iff = some-iff j (lawful-named f)
 
-  -- so where no group is without one, the best is one
+  -- so where no component is without one, the best is one
   pub optimal-best : firstWithout j ≡ none → Optimal j (best j)
   optimal-best e = let (x, s) = groups-iff .1 (all-fit j e) in best-is j x s
 
@@ -75,7 +75,7 @@ module _ (j : Job) (f : LawfulJob j) where
       self : (i : ℕ) → i ∈ leads j → lowest j i ≡ i
       self i m = in-leads j i .0 m .1
 
-  -- the numbers and the worth of a solution fit their fields
+  -- the numbers and the objective of a solution fit their fields
   module _ (x : List ℤ) (s : IsSolution j x) where
     pub number-within : (i : ℕ) → i < length (j .variables) → Within bound (number x i)
     number-within i h =
@@ -88,7 +88,7 @@ module _ (j : Job) (f : LawfulJob j) where
         sum-within (length (j .variables)) (1000000 * bound) (λ i. variable j i .weight *ℤ number x i)
         (λ i h. within-mul (f .each-variable i h .weight) (number-within i h))
 
-  -- where no group is without a solution, the numbers and the worth of the best read back
+  -- where no component is without a solution, the numbers and the objective of the best read back
   module _ (e : firstWithout j ≡ none) (rest : List ℕ) where
     abbrev laid : List ℕ
     laid = laidOut (findings j) ++ rest

@@ -17,11 +17,11 @@ pub mod Lawful
 pub mod WithBounds
 -- the solutions of a job, in order, and the best of them
 pub mod Solutions
--- groups: what joins variables, and how groups are numbered
+-- components: what joins variables, and how components are numbered
 pub mod Components
--- groups by document 01's sentence, and by the functions that compute
+-- components by document 01's sentence, and by the functions that compute
 pub mod Numbering
--- from groups to the whole job and back
+-- from components to the whole job and back
 pub mod Assembly
 -- where the best stands among the solutions
 pub mod PlaceOfBest
@@ -35,5 +35,5 @@ pub mod Outcomes
 pub mod LongInput
 -- the sham planners of document 01, each refused by the demand that is named beside it
 pub mod Shams
--- job M by the sentences on groups
+-- job M by the sentences on components
 pub mod Examples

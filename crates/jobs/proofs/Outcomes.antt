@@ -48,7 +48,7 @@ module _ (s area : List ℕ) where
       sound : fault s area ≡ none
       sound = fault-none s (short? j area) (accepted-none s ok) (λ h. omega (arith, h, room))
 
-      -- a group has no solution
+      -- a component has no solution
       pub no-fit : (l : ℕ) → firstWithout (jobOf s) ≡ some l → (verdict s area ≡ noFit l) × (sheet s area ≡ area)
       no-fit l e = let v : verdict s area ≡ noFit l = by-fault sound ∙ ap (λ k. outcome none k (objective j (best j))) e in (v, if-noFit s area v)
 

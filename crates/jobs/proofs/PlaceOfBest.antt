@@ -1,4 +1,4 @@
--- Where the best stands among the solutions: 01's chosen k of a group.
+-- Where the best stands among the solutions: 01's chosen k of a component.
 use mathlib.Core.Path.{_≡_, refl, _∙_, ap, ap₂}
 use mathlib.Core.Logic.{_≢_}
 use mathlib.Core.Bool.{Bool, true, false, false≢true, and-eq-true-iff}

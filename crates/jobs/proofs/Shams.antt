@@ -1,5 +1,5 @@
 -- Document 01, "Wrong plans on the frame": the sham planners, nearest to passing first, and of each that it breaks the demand that
--- is named beside it; and three more that break demand 2: groups numbered from 1, two groups with one number, and a refusal for
+-- is named beside it; and three more that break demand 2: components numbered from 1, two components with one number, and a refusal for
 -- everybody. Where a theorem is about one job, that job alone refuses the sham.
 use mathlib.Core.Path.{_≡_, refl, sym, _∙_, ap}
 use mathlib.Core.Logic.{_≢_, ⊎-elim}
@@ -44,14 +44,14 @@ oneCount = header 1 0 36 36 ++ count (plus 0) (plus 1) (plus 1)
 abbrev pub twoCounts : List ℕ
 twoCounts = header 2 0 48 48 ++ count (plus 0) (plus 1) (plus 1) ++ count (plus 0) (plus 1) (plus 1)
 
--- 0..1, and a second group of 0..3 and 0..3 with c1 − c2 = 1
+-- 0..1, and a second component of 0..3 and 0..3 with c1 − c2 = 1
 abbrev pub twoGroups : List ℕ
 twoGroups = header 3 1 60 80 ++ plain 1 ++ plain 3 ++ plain 3 ++ difference 1 2 1
 
 abbrev smallJobs : List (List ℕ)
 smallJobs = noCounts ∷ oneCount ∷ twoCounts ∷ twoGroups ∷ []
 
--- what refuses a sham is the demand and not the job: the check accepts each of them, and each of its groups has a fit-out
+-- what refuses a sham is the demand and not the job: the check accepts each of them, and each of its components has a fit-out
 small : (map checked smallJobs ≡ accepted ∷ accepted ∷ accepted ∷ accepted ∷ []) ×
     (map (λ s. firstWithout (jobOf s)) smallJobs ≡ none ∷ none ∷ none ∷ none ∷ [])
 unfolding checked firstWithout jobOf
@@ -81,7 +81,7 @@ first-group-only-ties area after w f d = broken (f 1 (omega arith) (apart 1 (ome
     broken : {x y : ℤ} → x ≡ pos 0 → y ≡ pos 0 → pos 1 *ℤ x +ℤ negsuc 0 *ℤ y ≢ pos 1
     broken {x} {y} p q e = lin (x ∷ y ∷ []) (p & q & e) (search facts depth 20) (omega arith)
 
--- the two counts of `twoCounts` are in groups of their own
+-- the two counts of `twoCounts` are in components of their own
 untied : ¬ Joined (jobOf twoCounts) 0 1
 unfolding jobOf unsigned table lowest
 untied s = omega (arith, joined-iff (jobOf twoCounts) 0 1 .0 s)
@@ -119,7 +119,7 @@ fits-are-fixed s area after w d l m =
     let j = jobOf s in
     family-fits (in-leads j l .0 (lead-iff j l .0 m) .1) (d .given w refl .1 .1 .families l m)
 
--- ---- groups numbered from 1: the first has number 0, where there is a count at all
+-- ---- components numbered from 1: the first has number 0, where there is a count at all
 pub numbered-from-one : (s area after : List ℕ) (w : ℤ) → 0 < length (jobOf s .variables) →
     ((i : ℕ) → i < length (jobOf s .variables) → groupOn after i ≢ 0) → ¬ GivesFits s area (planned w) after
 numbered-from-one s area after w any from d =
@@ -127,7 +127,7 @@ numbered-from-one s area after w any from d =
     let (i, h) = f .each 0 .0 (omega (arith, f .each (groupOn after 0) .1 (0, (any, refl)))) in
     from i (h .0) (h .1)
 
--- ---- two groups given one number: counts that are not joined have two
+-- ---- two components given one number: counts that are not joined have two
 pub one-number : (s area after : List ℕ) (w : ℤ) (i k : ℕ) → i < length (jobOf s .variables) → k < length (jobOf s .variables) →
     ¬ Joined (jobOf s) i k → groupOn after i ≡ groupOn after k → ¬ GivesFits s area (planned w) after
 one-number s area after w i k h l n e d = n (d .given w refl .1 .0 .groups .together i k h l .0 e)

@@ -145,7 +145,7 @@ module _ (f : Findings) where
       pub step-back : Within (2 * bound) (f .run i .step) → stepOn (laidOut f ++ rest) i ≡ f .run i .step
       step-back b = signed-field 4 (f .run i .step) (in-variable rest 4 i 8 h (omega arith) ∙ step-field) (within-holds 4 (2 * bound) (f .run i .step) (omega arith) b)
 
-    -- of the row of group g, whose lowest variable is l
+    -- of the row of component g, whose lowest variable is l
     module _ (g l : ℕ) (h : g < length (f .leads)) (lead : getD (f .leads) g 0 ≡ l) where
       of-row : (k at : ℕ) → at + k ≤ 16 → unsigned k (laidOut f ++ rest) (24 + 16 * f .n + 16 * g + at) ≡ unsigned k (groupRow l) at
       of-row k at b = in-group rest k g at h b ∙ ap (λ l. unsigned k (groupRow l) at) lead
@@ -181,7 +181,7 @@ module _ (f : Findings) where
         unsigned k (laidOut f ++ rest) (24 + 16 * i + at) ≡ y
     variable-back k y i at m h e l = in-variable rest k i at m h ∙ e ∙ unsigned-bytesOf k y l
 
--- the counts, the offsets and the numbers of groups fit their fields where n fits its own
+-- the counts, the offsets and the numbers of components fit their fields where n fits its own
 pub laidOut-back : (j : Job) (rest : List ℕ) → length (j .variables) < 65536 → LaidOut j (laidOut (findings j) ++ rest)
 unfolding laidOut sheetHeader sheetVariable unsigned
 laidOut-back j rest h = record {

@@ -21,12 +21,12 @@ count low high weight = low ++ high ++ weight
 abbrev pub plain : ℕ → List ℕ
 plain high = count (plus 0) (plus high) (plus 0)
 
-abbrev pub equation : ℕ → ℕ → List ℕ → List ℕ → ℕ → List ℕ
-equation left right a b c = left ∷ 0 ∷ right ∷ 0 ∷ [] ++ a ++ b ++ c ∷ 0 ∷ 0 ∷ 0 ∷ 0 ∷ 0 ∷ 0 ∷ 0 ∷ []
+abbrev pub equationBytes : ℕ → ℕ → List ℕ → List ℕ → ℕ → List ℕ
+equationBytes left right a b c = left ∷ 0 ∷ right ∷ 0 ∷ [] ++ a ++ b ++ c ∷ 0 ∷ 0 ∷ 0 ∷ 0 ∷ 0 ∷ 0 ∷ 0 ∷ []
 
 -- left + right = c and left − right = c
 abbrev pub total : ℕ → ℕ → ℕ → List ℕ
-total left right c = equation left right (plus 1) (plus 1) c
+total left right c = equationBytes left right (plus 1) (plus 1) c
 
 abbrev pub difference : ℕ → ℕ → ℕ → List ℕ
-difference left right c = equation left right (plus 1) (minus 1) c
+difference left right c = equationBytes left right (plus 1) (minus 1) c

@@ -16,7 +16,7 @@ use Rattle.jobs.specs.Component.{lowest, leads, componentCount, componen
 use Rattle.jobs.specs.Family.{componentJob, base, step, chosen, slope}
 use Rattle.jobs.specs.Verdict.{Verdict, planned, noFit, refused, verdict}
 use Rattle.jobs.specs.Sheet.{answerMark, sheet}
-use Rattle.jobs.specs.JobBytes.{plus, minus, header, count, plain, equation, total, difference}
+use Rattle.jobs.specs.JobBytes.{plus, minus, header, count, plain, equationBytes, total, difference}
 use Rattle.jobs.specs.Demands.{worthOn, baseOn, stepOn, groupOn, zeroOn, fitsOn, chosenOn, gainOn, numbersOn, memberOn}
 
 -- a job, the area as lent, and what they give
@@ -47,9 +47,9 @@ narrowM =
     count (plus 0) (plus 3) (minus 10) ++
     count (plus 2) (plus 3) (plus 0) ++
     -- 16·c0 − c1 = 0
-    equation 0 1 (plus 16) (minus 1) 0 ++
+    equationBytes 0 1 (plus 16) (minus 1) 0 ++
     -- 2·c0 − 3·c2 = 4
-    equation 0 2 (plus 2) (minus 3) 4
+    equationBytes 0 2 (plus 2) (minus 3) 4
 
 abbrev narrowMSheet : List ℕ
 narrowMSheet =
@@ -98,7 +98,7 @@ falling =
     header 2 1 48 68 ++
     count (minus 5) (plus 5) (plus 0) ++
     count (minus 3) (plus 3) (plus 1) ++
-    equation 0 1 (plus 1) (plus 2) 0
+    equationBytes 0 1 (plus 1) (plus 2) 0
 
 abbrev fallingSheet : List ℕ
 fallingSheet =
@@ -170,11 +170,11 @@ groupsSheet =
 -- ---- jobs without one
 -- 2·c0 + 4·c1 = 7
 abbrev uneven : List ℕ
-uneven = header 2 1 48 68 ++ plain 9 ++ plain 9 ++ equation 0 1 (plus 2) (plus 4) 7
+uneven = header 2 1 48 68 ++ plain 9 ++ plain 9 ++ equationBytes 0 1 (plus 2) (plus 4) 7
 
 -- 3·c0 − 5·c1 = 0
 abbrev noMultiple : List ℕ
-noMultiple = header 2 1 48 68 ++ count (plus 1) (plus 4) (plus 0) ++ plain 9 ++ equation 0 1 (plus 3) (minus 5) 0
+noMultiple = header 2 1 48 68 ++ count (plus 1) (plus 4) (plus 0) ++ plain 9 ++ equationBytes 0 1 (plus 3) (minus 5) 0
 
 -- ---- faulty jobs
 -- what follows the mark for n = 257
@@ -207,7 +207,7 @@ vectors =
     untouched (twice 1) 72 (noFit 0) ∷
     -- a low above its high
     untouched (header 2 0 48 48 ++ plain 3 ++ count (plus 3) (plus 2) (plus 0)) 88 (noFit 1) ∷
-    untouched (groups (equation 1 3 (plus 2) (plus 4) 7)) 120 (noFit 1) ∷
+    untouched (groups (equationBytes 1 3 (plus 2) (plus 4) 7)) 120 (noFit 1) ∷
     -- an area one byte short, which stands before no fit
     untouched narrowM 119 (refused 8 0) ∷
     untouched uneven 71 (refused 8 0) ∷
@@ -219,8 +219,8 @@ vectors =
     untouched (header 2 1 48 68 ++ overweight ++ overweight ++ total 1 1 0) 8 (refused 5 0) ∷
     untouched (header 2 2 48 88 ++ plain 3 ++ overweight ++ total 1 1 0 ++ total 0 1 3) 8 (refused 5 1) ∷
     -- in the second equation both a count not below n and a = 0
-    untouched (header 2 2 48 88 ++ plain 3 ++ plain 3 ++ total 0 1 3 ++ equation 0 2 (plus 0) (plus 1) 3) 8 (refused 6 1) ∷
-    untouched (header 2 2 48 88 ++ plain 3 ++ plain 3 ++ equation 0 1 (plus 0) (plus 1) 3 ++ total 1 1 3) 8 (refused 7 0) ∷ []
+    untouched (header 2 2 48 88 ++ plain 3 ++ plain 3 ++ total 0 1 3 ++ equationBytes 0 2 (plus 0) (plus 1) 3) 8 (refused 6 1) ∷
+    untouched (header 2 2 48 88 ++ plain 3 ++ plain 3 ++ equationBytes 0 1 (plus 0) (plus 1) 3 ++ total 1 1 3) 8 (refused 7 0) ∷ []
 
 abbrev given : Vector → Verdict × List ℕ
 given v = (verdict (v .job) (v .area), sheet (v .job) (v .area))

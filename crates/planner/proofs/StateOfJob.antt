@@ -1,4 +1,4 @@
--- What the families of a job say of the program's arrays: the labels, the runs, the first group without a solution, and what is
+-- What the families of a job say of the program's arrays: the labels, the runs, the first component without a solution, and what is
 -- found of them.
 use mathlib.Core.Path.{_≡_, refl, sym, _∙_, ap, subst}
 use native.Mathlib.Decide.{ℕ-discrete}
@@ -39,11 +39,11 @@ module _ (j : Job) (lawful : LawfulJob j) (x : State) (f : Families j x) where
   pub told : (i : ℕ) → i < length (j .variables) → (labelIn (x .labels) i ≡ lowest j i) × (runIn (x .runs) i ≡ familyRun j i)
   told i h = (f .label i h, f .run i h)
 
-  -- how many there are of a variable: the fits of its group
+  -- how many there are of a variable: the fits of its component
   many : (i : ℕ) → i < n → runIn (x .runs) i .many ≡ fits (componentJob j (lowest j i))
   many i h = ap (λ t. t .many) (f .run i h ∙ family-run-is j i)
 
-  -- as many as of the lowest variable of its group
+  -- as many as of the lowest variable of its component
   lowest-many : (i : ℕ) → i < n → runIn (x .runs) i .many ≡ runIn (x .runs) (labelIn (x .labels) i) .many
   lowest-many i h =
       many i h
@@ -69,14 +69,14 @@ module _ (j : Job) (lawful : LawfulJob j) (x : State) (f : Families j x) where
   pub counted : componentCount j ≡ length (leadsBy (labelIn (x .labels)) (length (j .variables)))
   counted = sym (ap length (leads-by j lawful (labelIn (x .labels)) (runIn (x .runs)) told))
 
-  -- ---- the first group without a solution
+  -- ---- the first component without a solution
   lead-many : (l : ℕ) → l ∈ leads j → fits (componentJob j l) ≡ runIn (x .runs) l .many
   lead-many l m = let (h, q) = in-leads j l .0 m in ap (λ i. fits (componentJob j i)) (sym q) ∙ sym (many l h)
 
   pub found : (l : ℕ) → l < length (j .variables) → runIn (x .runs) l .many ≡ 0 → NoneEmpty (x .runs) l → firstWithout j ≡ some l
   found l h k b = without-iff j l .1 (lead, (lead-many l lead ∙ k, λ i m c. λ q. omega (arith, b .at i c, sym (lead-many i m) ∙ q)))
     where
-      -- the lowest of its group, since that has no more
+      -- the lowest of its component, since that has no more
       own : lowest j l ≡ l
       own = go (ℕ-discrete (lowest j l) l)
         where

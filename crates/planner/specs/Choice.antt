@@ -20,12 +20,12 @@ use Rattle.planner.specs.declared.choose.Found.the-variants.{At, Nothing
 pub record FamilyRuns (runs : List Run) (n : ℕ) : Type 0 where
   pub at : (i : ℕ) → i < n → FamilyRun (runIn runs i)
 
--- and in that of its group, which has as many members for all of them
+-- and in that of its component, which has as many members for all of them
 pub record Members (labels : List ℕ) (runs : List Run) (n : ℕ) : Type 0 where
   pub form : FamilyRuns runs n
   pub many : (i : ℕ) → i < n → runIn runs i .many ≡ runIn runs (labelIn labels i) .many
 
--- and no family is empty, where every group has a fit-out
+-- and no family is empty, where every component has a fit-out
 pub record NoneEmpty (runs : List Run) (n : ℕ) : Type 0 where
   pub at : (i : ℕ) → i < n → 1 ≤ runIn runs i .many
 
@@ -39,7 +39,7 @@ abbrev pub FirstEmpty : List Run → ℕ → Found → Type 0
 FirstEmpty runs n (At l) = (l < n) × ((runIn runs l .many ≡ 0) × NoneEmpty runs l)
 FirstEmpty runs n Nothing = NoneEmpty runs n
 
--- a variable's number, where a step along its group's family gains so much
+-- a variable's number, where a step along its component's family gains so much
 abbrev pub numberAt : Run → ℤ → ℤ
 numberAt run slope = run .first +ℤ run .step *ℤ pos (choice slope (run .many))
 
@@ -51,7 +51,7 @@ unfoldable pub objectiveIn : List ℤ → List ℤ → ℕ → ℤ
 unfolding sum
 objectiveIn weights numbers n = sum n (λ i. number weights i *ℤ number numbers i)
 
--- the index of the member that is chosen in the group of l
+-- the index of the member that is chosen in the component of l
 abbrev pub chosenIn : List Run → List ℤ → ℕ → ℕ
 chosenIn runs slopes l = choice (number slopes l) (runIn runs l .many)
 

@@ -1,4 +1,4 @@
-//! The choice in each group, and what it comes to.
+//! The choice in each component, and what it comes to.
 
 ghost use mathlib.Core.Path.{_≡_};
 ghost use Prim.Native.Nat.{_≤_};
@@ -13,13 +13,13 @@ ghost use Rattle.solver.specs.Labels.{Labelled};
 ghost use Rattle.planner.specs.Choice.{FamilyRuns, NoneEmpty, AllWithin, FirstEmpty, numberAt, numberIn, objectiveIn};
 use runs::Run;
 
-/// The first group without a fit, by its lowest variable, or that there is none.
+/// The first component without a fit, by its lowest variable, or that there is none.
 pub enum Found {
     At(u16),
     Nothing,
 }
 
-// The first of n variables that no number fits: the lowest of its group, since all variables of a group have equally many.
+// The first of n variables that no number fits: the lowest of its component, since all variables of a component have equally many.
 pub(crate) fn first_empty(runs: [Run; 256], n: usize) -> Found
     requires { ⌜ n ≤ 256 ⌝ }
     ensures { λ r. ⌜ FirstEmpty runs n r ⌝ }
@@ -37,7 +37,7 @@ pub(crate) fn first_empty(runs: [Run; 256], n: usize) -> Found
     }
 }
 
-// The gain of each group, at its lowest variable: what a step along its family adds to the worth.
+// The slope of each component, at its lowest variable: what a step along its family adds to the objective.
 pub(crate) fn slopes(
     weights: [i64; 256],
     labels: [u16; 256],

@@ -26,7 +26,7 @@ use solver::components;
 use solver::equations;
 use solver::variables;
 
-// the choice in each group
+// the choice in each component
 mod choose;
 // the sheet
 mod sheet;
@@ -35,7 +35,7 @@ mod sheet;
 pub enum Outcome {
     /// The sheet stands in the answer area, and its numbers are worth so much.
     Planned(i64),
-    /// No numbers fit; this is the lowest variable of the first group that has none.
+    /// No numbers fit; this is the lowest variable of the first component that has none.
     NoFit(u16),
     /// The job is faulty or the answer area too short; nothing is written.
     Refused(Reason),
@@ -83,7 +83,7 @@ fn fitted(job: &[u8], area: &mut [u8]) -> Outcome
     }
 }
 
-// The sheet of what is found, where every group has a fit-out; state has the families of n variables in g groups.
+// The sheet of what is found, where every component has a fit-out; state has the families of n variables in g components.
 fn written(area: &mut [u8], weights: [i64; 256], state: State, n: usize, g: usize) -> Outcome
     requires { ⌜ n ≤ 256 ⌝ }
     requires { ⌜ AllWithin 1000000 weights n ⌝ }

@@ -20,7 +20,7 @@ use solver::components;
 // The mark of a sheet.
 const MARK: [u8; 4] = *b"ANS1";
 
-// How long it is, for n variables in g groups.
+// How long it is, for n variables in g components.
 pub(crate) fn length(n: usize, g: usize) -> usize
     requires { ⌜ n ≤ 256 ⌝ }
     requires { ⌜ g ≤ 256 ⌝ }
@@ -29,7 +29,7 @@ pub(crate) fn length(n: usize, g: usize) -> usize
     24 + 16 * n + 16 * g
 }
 
-// All of it, for n variables in g groups. What lies behind it stays.
+// All of it, for n variables in g components. What lies behind it stays.
 pub(crate) fn write(
     area: &mut [u8],
     labels: [u16; 256],

@@ -1,4 +1,4 @@
--- What holds of a job that the check accepts, once it is read: how many variables and groups it has, and that the bounds in its
+-- What holds of a job that the check accepts, once it is read: how many variables and components it has, and that the bounds in its
 -- rows are its own.
 use mathlib.Core.Path.{_≡_, sym, _∙_, ap, subst}
 use mathlib.Core.List.{List}
@@ -36,7 +36,7 @@ module _ (s : List ℕ) (n m : ℕ) (p : n ≡ variableCount s) (q : m ≡ equat
   pub vars : n ≡ length (jobOf s .variables)
   vars = p ∙ sym (variables-of s)
 
-  -- the groups that are counted are those of the definition
+  -- the components that are counted are those of the definition
   pub counted : (labels : List ℕ) (g : ℕ) → Labels (jobOf s) m n labels → g ≡ length (keep (λ i. eqb (getD labels i 0) i) (upTo n)) → g ≡ componentCount (jobOf s)
   unfolding leads lowest
   counted labels g a e = e ∙ ap length (keep-same (λ i. eqb (getD labels i 0) i) (λ i. eqb (lowest (jobOf s) i) i) (upTo n) same) ∙ ap (λ n. length (keep (λ i. eqb (lowest (jobOf s) i) i) (upTo n))) vars

@@ -4,7 +4,7 @@
 pub mod MergedLabels
 -- whether an equation joins two sets
 pub mod JoinTest
--- the lowest variables of the groups, one after the other
+-- the lowest variables of the components, one after the other
 pub mod LowestVariables
 -- 64 bits hold what is made of the numbers of a family
 pub mod In64Bits

@@ -1,4 +1,4 @@
--- The lowest variables of the groups, as a pass over the variables meets them; g gives the lowest variable of each one's group.
+-- The lowest variables of the components, as a pass over the variables meets them; g gives the lowest variable of each one's component.
 use mathlib.Core.Path.{_≡_, refl, _∙_, ap, subst}
 use mathlib.Core.Logic.{_≢_}
 use mathlib.Core.Bool.{Bool, true, false, cond}
@@ -90,7 +90,7 @@ module _ (g : ℕ → ℕ) where
   unfolding componentBy
   component-lead n i h e = ap (λ v. length (keep (λ l. ltb l v) (leadsBy g n))) e ∙ ap length (rank i n h)
 
-  -- and variables of one group have one number
+  -- and variables of one component have one number
   pub component-same : (n i k : ℕ) → g i ≡ g k → componentBy g n i ≡ componentBy g n k
   unfolding componentBy
   component-same n i k e = ap (λ v. length (keep (λ l. ltb l v) (leadsBy g n))) e

@@ -2,11 +2,11 @@
 
 -- what the arrays of the state say
 pub mod StateArrays
--- what is promised of the state: each variable's group and family
+-- what is promised of the state: each variable's component and family
 pub mod Families
 -- the variables' rows in arrays, and what the variables begin with
 pub mod VariableArrays
--- groups as a list of labels
+-- components as a list of labels
 pub mod Labels
 -- what the program's enums and structs of one step say
 pub mod Steps

@@ -1,4 +1,4 @@
-//! Groups, each named by its lowest variable.
+//! Components, each named by its lowest variable.
 
 ghost use mathlib.Core.Path.{_≡_};
 ghost use mathlib.Core.Bool.{not};
@@ -14,21 +14,21 @@ ghost use Rattle.solver.specs.StateArrays.{labelIn};
 ghost use Rattle.families.specs.ModelFindings.{componentBy};
 use jobs::Equation;
 
-// Does an equation between variables of these groups join two sets that earlier rows left separate?
+// Does an equation between variables of these components join two sets that earlier rows left separate?
 pub(crate) fn joins(left: u16, right: u16) -> bool
     ensures { λ r. ⌜ r ≡ not (eqb left right) ⌝ }
 {
     left != right
 }
 
-// The lower of two lowest variables: that of both groups together.
+// The lower of two lowest variables: that of both components together.
 pub(crate) fn lower(l: u16, r: u16) -> u16
     ensures { λ q. ⌜ q ≡ min l r ⌝ }
 {
     if l < r { l } else { r }
 }
 
-// Each variable in a group of its own.
+// Each variable in a component of its own.
 pub(crate) fn apart() -> [u16; 256]
     ensures { λ r. ⌜ Apart r ⌝ }
 {
@@ -41,7 +41,7 @@ pub(crate) fn apart() -> [u16; 256]
     labels
 }
 
-// The groups l and r as one, for n variables.
+// The components l and r as one, for n variables.
 pub(crate) fn joined(labels: [u16; 256], l: u16, r: u16, n: usize) -> [u16; 256]
     requires { ⌜ n ≤ 256 ⌝ }
     requires { ⌜ l < n ⌝ }
@@ -99,7 +99,7 @@ pub fn lowest(job: &[u8], n: usize, m: usize) -> [u16; 256]
     labels
 }
 
-// How many groups n variables are in: 01's g.
+// How many components n variables are in: 01's g.
 pub fn count(labels: [u16; 256], n: usize) -> usize
     requires { ⌜ n ≤ 256 ⌝ }
     ensures { λ g. ⌜ g ≡ length (keep (λ i. eqb (getD labels i 0) i) (upTo n)) ⌝ }

@@ -1,4 +1,4 @@
-//! An equation inside a group, document 01's ring: it is redundant, or leaves one candidate, or leaves none.
+//! An equation inside a component, document 01's ring: it is redundant, or leaves one candidate, or leaves none.
 
 ghost use mathlib.Core.Path.{_≡_};
 ghost use mathlib.Core.Logic.{_≢_};
@@ -11,7 +11,7 @@ ghost use Rattle.solver.specs.Steps.{remainsBy};
 use runs::Equation;
 use runs::Run;
 
-/// What an equation inside a group leaves of the group's family: all of it, or the members at the indices of a run.
+/// What an equation inside a component leaves of the component's family: all of it, or the members at the indices of a run.
 pub enum Remains {
     All,
     At(Run),

@@ -64,7 +64,7 @@ pub fn families(job: &[u8], bounds: [Bounds; 256], n: usize, m: usize) -> State
     }
 }
 
-// What an equation between variables of the groups l and r, which have the runs p and q, leaves of their families.
+// What an equation between variables of the components l and r, which have the runs p and q, leaves of their families.
 fn leaves(e: runs::Equation, l: u16, r: u16, p: Run, q: Run) -> Kept
     requires { ⌜ CarryLimits e ⌝ }
     requires { ⌜ FamilyRun p ⌝ }
@@ -81,7 +81,7 @@ fn leaves(e: runs::Equation, l: u16, r: u16, p: Run, q: Run) -> Kept
     }
 }
 
-// The runs of n variables, of which those in the groups l and r keep the members at their indices. No variable before the
+// The runs of n variables, of which those in the components l and r keep the members at their indices. No variable before the
 // lower of their lowest is in either.
 fn keep(runs: [Run; 256], labels: [u16; 256], l: u16, r: u16, kept: Indices, n: usize) -> [Run; 256]
     requires { ⌜ n ≤ 256 ⌝ }
@@ -100,7 +100,7 @@ fn keep(runs: [Run; 256], labels: [u16; 256], l: u16, r: u16, kept: Indices, n: 
     out
 }
 
-// The run of a variable in the group g after that.
+// The run of a variable in the component g after that.
 fn part(run: Run, g: u16, l: u16, r: u16, kept: Indices) -> Run
     requires { ⌜ FamilyRun run ⌝ }
     requires { ⌜ FamilyRun (runAfter l r (indicesBy kept) g run) ⌝ }

@@ -1,4 +1,4 @@
-//! An equation between two groups: which members of the two families go together.
+//! An equation between two components: which members of the two families go together.
 
 ghost use mathlib.Core.Path.{_≡_};
 ghost use lib.IntN.{_-ℤ_, _*ℤ_};
@@ -21,7 +21,7 @@ pub struct Indices {
     pub right: Run,
 }
 
-// The members of the two families for which the equation holds. `leads` says that the left variable's group has the lower
+// The members of the two families for which the equation holds. `leads` says that the left variable's component has the lower
 // lowest variable, which is that of both together and must rise.
 pub(crate) fn between(e: Equation, p: Run, q: Run, leads: bool) -> Indices
     requires { ⌜ CarryLimits e ⌝ }
@@ -94,7 +94,7 @@ fn partner(e: Equation, p: i64) -> i64
 }
 
 impl Indices {
-    // In the direction in which the new lowest variable rises. The lowest variables of both groups rise with their indices.
+    // In the direction in which the new lowest variable rises. The lowest variables of both components rise with their indices.
     fn directed(self, leads: bool) -> Indices
         requires { ⌜ Turnable (self .left) ⌝ }
         requires { ⌜ Turnable (self .right) ⌝ }

@@ -1,4 +1,4 @@
-//! The solver: from a job to its groups and the family of each.
+//! The solver: from a job to its components and the family of each.
 //!
 //! Read `specs/Lib.antt`, then this file, then the modules in the order in which they are listed.
 
@@ -6,11 +6,11 @@ use runs::Run;
 
 // the part of a family at a run of indices; a run that falls, turned
 mod parts;
-// an equation inside a group
+// an equation inside a component
 mod cycle;
-// an equation between two groups
+// an equation between two components
 mod join;
-// groups, by their lowest variables
+// components, by their lowest variables
 pub mod components;
 // the variables' rows
 pub mod variables;
@@ -21,10 +21,10 @@ pub mod equations;
 
 /// What is known while the equations are taken in, for each variable by its number.
 ///
-/// `groups[i]` is the lowest variable of the group of variable i. `runs[i]` is what variable i can be: at k its number is
-/// `first + step·k`, for each k below `many`. The k and the `many` are the group's, so that all its variables move together;
-/// a step may be negative, but that of the group's lowest variable is not. With two or more members no step is 0, with one every
-/// step is, and a group that no numbers fit is 0, 0, 0 throughout.
+/// `labels[i]` is the lowest variable of the component of variable i. `runs[i]` is what variable i can be: at k its number is
+/// `first + step·k`, for each k below `many`. The k and the `many` are the component's, so that all its variables move together;
+/// a step may be negative, but that of the component's lowest variable is not. With two or more members no step is 0, with one every
+/// step is, and a component that no numbers fit is 0, 0, 0 throughout.
 pub struct State {
     pub labels: [u16; 256],
     pub runs: [Run; 256],

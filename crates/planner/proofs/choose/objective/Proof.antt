@@ -1,4 +1,4 @@
--- `worth` meets its contract: term for term.
+-- `objective` meets its contract: term for term.
 use mathlib.Core.Path.{_≡_, refl, sym, _∙_, ap}
 use mathlib.Core.List.{List}
 use Prim.Native.Nat.{ℕ, _+_, _-_, _≤_, _<_}

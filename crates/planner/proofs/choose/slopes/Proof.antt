@@ -1,4 +1,4 @@
--- `gains` meets its contract: each variable adds to its own group.
+-- `slopes` meets its contract: each variable adds to its own component.
 use mathlib.Core.Path.{_≡_, refl, sym, _∙_, ap, subst}
 use mathlib.Core.List.{List}
 use Prim.Native.Nat.{ℕ, zero, suc, _+_, _-_, _≤_, _<_}
@@ -22,7 +22,7 @@ use Rattle.planner.proofs.WeightedSums.{fits-product, fits-total, total
 use Rattle.planner.proofs.choose.slopes.Statement.{statement}
 use Rattle.planner.proofs.choose.slopes.Tie as tie
 
--- the gains of the first i variables: w gives the weights, g the labels and s the steps
+-- the slopes of the first i variables: w gives the weights, g the labels and s the steps
 record Summed (w : ℕ → ℤ) (g : ℕ → ℕ) (s : ℕ → ℤ) (n i : ℕ) (slopes : List ℤ) : Type 0 where
   long : length slopes ≡ 256
   at : (l : ℕ) → l < n → getD slopes l (pos 0) ≡ sumOf g l i (λ k. w k *ℤ s k)
@@ -43,7 +43,7 @@ module _ (w : ℕ → ℤ) (g : ℕ → ℕ) (s : ℕ → ℤ) (n : ℕ) where
   unfolding sum
   none = record { long = length-replicate 256 (pos 0); at = λ l h. zeros 256 l }
 
-  -- one variable more: i adds to its group
+  -- one variable more: i adds to its component
   more : (i : ℕ) (slopes : List ℤ) → Summed w g s n i slopes → g i < n → n ≤ 256 → (x : ℤ) → x ≡ sumOf g (g i) i term +ℤ term i → Summed w g s n (i + 1) (set slopes (g i) x)
   more i slopes f b small x e = record {
     long = length-set slopes (g i) x ∙ f .long;

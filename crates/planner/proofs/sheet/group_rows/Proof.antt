@@ -37,7 +37,7 @@ kept labels runs slopes n i a x h l e =
     laid-length 0 (length (leadsBy (labelIn labels) i)) (rows labels runs slopes i) a x (long labels runs slopes i)
     (omega (arith, leads-mono (labelIn labels) i n h, l)) e
 
--- at the lowest variable i of a group there is room for a row
+-- at the lowest variable i of a component there is room for a row
 room : (g : ℕ → ℕ) (n i : ℕ) (a : List ℕ) → i < n → g i ≡ i → 16 * length (leadsBy g n) ≤ length a → 16 * length (leadsBy g i) + 16 ≤ length a
 room g n i a h e l = omega (arith, leads-mono g (i + 1) n (omega arith), ap length (leads-yes g i e) ∙ length-append (leadsBy g i) (i ∷ []), l)
 

@@ -1,4 +1,4 @@
--- `count` meets its contract: what is counted and what is left to count are together all the groups.
+-- `count` meets its contract: what is counted and what is left to count are together all the components.
 use mathlib.Core.Path.{_≡_, _∙_}
 use mathlib.Core.Logic.{⊎-elim}
 use mathlib.Core.Bool.{Bool}
@@ -13,7 +13,7 @@ use Rattle.lists.proofs.Counting.{left, left-all, left-yes, left-no, left-none}
 use Rattle.solver.proofs.components.count.Statement.{statement}
 use Rattle.solver.proofs.components.count.Tie as tie
 
--- is it the lowest of its group?
+-- is it the lowest of its component?
 abbrev leads : List ℕ → ℕ → Bool
 leads labels i = eqb (getD labels i 0) i
 

@@ -167,7 +167,7 @@ add-k c = omega arith
 loop-less : tie.Need-loop-less Inv-loop μ-loop
 loop-less c = omega arith
 
--- groups and runs are what was made of them
+-- components and runs are what was made of them
 onward : (c : tie.After-read Inv-loop μ-loop) {labels labels′ : List ℕ} {runs runs′ : List Run} → labels ≡ labels′ → runs ≡ runs′ → length labels′ ≡ 256 → length runs′ ≡ 256 →
     ((b : List Bounds) → BoundedBy b (s c .args .n) → Begins b (s c .args .n) (c .before .before .before .start .result) → Follows (withBounds (jobOf (s c .args .job .now)) b) (suc (k c)) labels′ runs′) →
     (length labels ≡ 256) × ((length runs ≡ 256) × Known (s c .args .job .now) (s c .args .n) (c .before .before .before .start .result) (k c + 1) labels runs)

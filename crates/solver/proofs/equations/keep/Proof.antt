@@ -20,7 +20,7 @@ use Rattle.solver.proofs.equations.keep.Tie as tie
 abbrev after : List Run → List ℕ → ℕ → ℕ → Indices → ℕ → Run
 after runs labels l r i k = runAfter l r (indicesBy i) (getD labels k 0) (getD runs k empty)
 
--- no variable before both groups is in one of them
+-- no variable before both components is in one of them
 before-both : (runs : List Run) (labels : List ℕ) (l r : ℕ) (i : Indices) (n : ℕ) → l < n → Labelled labels n → (low : ℕ) → low ≡ min l r → (k : ℕ) → k < low →
     getD runs k empty ≡ after runs labels l r i k
 before-both runs labels l r i n b f low e k h =

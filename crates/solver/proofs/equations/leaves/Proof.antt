@@ -20,7 +20,7 @@ use Rattle.solver.proofs.equations.leaves.Statement.{statement}
 use Rattle.solver.proofs.equations.leaves.Tie as tie
 
 module _ (e : Equation) (l r : ℕ) (P Q : Run) where
-  -- between two groups
+  -- between two components
   apart : CarryLimits e → FamilyRun P → FamilyRun Q → not (eqb l r) ≡ true → (i : Indices) →
       i ≡ join e P Q (meet (upward P) (carry (e .a) (e .b) (e .c) (upward Q))) (ltb l r) → some i ≡ kept e l r P Q
   unfolding kept
