@@ -8,7 +8,7 @@ ghost use Rattle.bytes.specs.LittleEndian.{unsigned, u16, u32, i32, i64,
 ghost use Rattle.bytes.specs.Over.{over};
 ghost use Rattle.bytes.specs.Method.{SignedOf, Residue};
 
-/// The number in `width` bytes from a place on, the highest byte first taken in.
+/// The number in `width` bytes from a place on, read from the highest byte down.
 pub fn get(s: &[u8], at: usize, width: usize) -> u64
     requires { ⌜ at + width ≤ length (now s) ⌝ }
     requires { ⌜ width ≤ 8 ⌝ }

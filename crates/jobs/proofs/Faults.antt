@@ -61,13 +61,13 @@ module _ (s : List ℕ) where
   in-checks {r} = in-append jobChecks (ShortArea ∷ []) r .1
 
   among : (short : Type 0) (r : Reason) → Broken short s r → r ∈ checks s
-  among short ShortJob b = in-checks (inl (here refl))
-  among short WrongMark b = in-checks (inl (there (here refl)))
-  among short TooMany b = in-checks (inl (there (there (here refl))))
-  among short WrongHeader b = in-checks (inl (there (there (there (here refl)))))
+  among short ShortJob b = in-checks (inl (search (here, there, refl)))
+  among short WrongMark b = in-checks (inl (search (here, there, refl)))
+  among short TooMany b = in-checks (inl (search (here, there, refl)))
+  among short WrongHeader b = in-checks (inl (search (here, there, refl)))
   among short (VariableRange i) b = in-checks (inl (in-variables i (b .0)))
-  among short (EquationVariables k) b = in-checks (inl (in-row k (b .0) (here refl)))
-  among short (EquationRange k) b = in-checks (inl (in-row k (b .0) (there (here refl))))
+  among short (EquationVariables k) b = in-checks (inl (in-row k (b .0) (search (here, there, refl))))
+  among short (EquationRange k) b = in-checks (inl (in-row k (b .0) (search (here, there, refl))))
   among short ShortArea b = in-checks (inr (here refl))
   among short WrongArgument b = absurd b
 

@@ -1,5 +1,5 @@
 -- The laws of jobs, in the order in which they rest on each other. Other crates go by Solutions, Components and Assembly, and
--- find in Faults when a job is turned away and in Lawful what is known of one that is not.
+-- find in Faults when a job is turned away and in Lawful that one that is not is lawful.
 
 -- the rows of the job that bytes say
 pub mod JobOf
@@ -7,11 +7,11 @@ pub mod JobOf
 pub mod Branches
 -- the first member of a list of which a statement holds
 pub mod FirstOf
--- a walk through the rows of a job
+-- the checks of the rows, row by row
 pub mod RowChecks
 -- a reason is reported exactly when its rule is broken and none before it
 pub mod Faults
--- what is known of a job that no check turns away
+-- a job that no check turns away is lawful
 pub mod Lawful
 -- a job with other bounds
 pub mod WithBounds

@@ -1,4 +1,4 @@
--- A walk through the rows: what is left of the checks at a row, and what that row's tests say of it.
+-- The checks of the rows, row by row: what is left of them at a row, and what that row's tests say of it.
 use mathlib.Core.Path.{_≡_, _∙_, ap}
 use mathlib.Core.Option.{Option, none, some}
 use mathlib.Core.List.{List, _∷_, flatMap}
