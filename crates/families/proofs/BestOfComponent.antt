@@ -16,7 +16,8 @@ use Rattle.lists.proofs.Lexicographic.{lower-asym}
 use Rattle.lists.proofs.Table.{in-table, table-at, table-rises}
 use Rattle.lists.proofs.Sums.{sum-ext, sum-add, sum-scale}
 use Rattle.jobs.specs.Job.{Job, variable}
-use Rattle.jobs.specs.Solution.{number, IsSolution, solutions, objective, Earlier, Better, Optimal, best}
+use Rattle.jobs.specs.TieBreak.{Earlier}
+use Rattle.jobs.specs.Solution.{number, IsSolution, solutions, objective, Better, Optimal, best}
 use Rattle.jobs.specs.Family.{fits, base, step, chosen, slope}
 use Rattle.jobs.proofs.Solutions.{in-solutions, rising-solutions, best-only}
 use Rattle.jobs.proofs.PlaceOfBest.{chosen-at}

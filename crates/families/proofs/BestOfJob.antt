@@ -19,7 +19,8 @@ use Rattle.lists.proofs.Best.{at-most, among-equals}
 use Rattle.lists.proofs.Sums.{sum-ext, sum-sub, sum-nonpos, sum-nonpos-zero, pick-no, pick-yes, regroup}
 use Rattle.jobs.specs.declared.Equation.{Equation}
 use Rattle.jobs.specs.Job.{Job, variable}
-use Rattle.jobs.specs.Solution.{number, IsSolution, objective, Earlier, Better, Optimal, best}
+use Rattle.jobs.specs.TieBreak.{Earlier}
+use Rattle.jobs.specs.Solution.{number, IsSolution, objective, Better, Optimal, best}
 use Rattle.jobs.specs.Component.{lowest, leads}
 use Rattle.jobs.specs.Family.{componentJob, fits, slope}
 use Rattle.jobs.proofs.Solutions.{best-is, best-only}

@@ -12,7 +12,7 @@ use Rattle.runs.specs.declared.Run.{Run}
 use Rattle.runs.specs.Run.{empty}
 use Rattle.jobs.specs.Job.{Job, form, equation}
 use Rattle.jobs.specs.Component.{merged, lowestBy}
-use Rattle.jobs.specs.Table.{Coefficients}
+use Rattle.jobs.specs.ReasonTable.{Coefficients}
 use Rattle.jobs.specs.Lawful.{LawfulJob}
 use Rattle.families.specs.Model.{State, labelAt, runAt, Indices, runAfter, kept, change, next, stateAfter}
 use Rattle.families.specs.Invariant.{Invariant}

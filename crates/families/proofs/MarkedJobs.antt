@@ -10,11 +10,12 @@ use lib.ListN.{length, drop}
 use Rattle.lists.specs.Members.{_∈_}
 use Rattle.lists.proofs.Maps.{same-values}
 use Rattle.jobs.specs.Job.{Job, jobOf}
-use Rattle.jobs.specs.Layout.{sheetLength}
+use Rattle.jobs.specs.SheetOffsets.{sheetLength}
 use Rattle.jobs.specs.Faults.{Answer, accepted, checked}
 use Rattle.jobs.specs.Findings.{Findings}
 use Rattle.jobs.specs.Verdict.{Verdict, planned, noFit, refused, outcome, short?, verdict}
-use Rattle.jobs.specs.Sheet.{laidOut, areaAfter, sheet}
+use Rattle.jobs.specs.SheetLayout.{laidOut}
+use Rattle.jobs.specs.Sheet.{areaAfter, sheet}
 use Rattle.jobs.proofs.Faults.{accepted-none, fault-none}
 use Rattle.jobs.proofs.Outcomes.{too-short}
 use Rattle.families.specs.ModelFindings.{modelFindings, modelEmpty, verdictBy, sheetBy}

@@ -28,7 +28,8 @@ use Rattle.jobs.specs.Component.{lowest, leads, component}
 use Rattle.jobs.specs.Family.{componentJob, fits, step, chosen, slope, familyRun}
 use Rattle.jobs.specs.Verdict.{Verdict, planned, noFit, refused, firstWithout, outcome, verdict}
 use Rattle.jobs.specs.Findings.{findings}
-use Rattle.jobs.specs.Sheet.{laidOut, areaAfter, sheet}
+use Rattle.jobs.specs.SheetLayout.{laidOut}
+use Rattle.jobs.specs.Sheet.{areaAfter, sheet}
 use Rattle.jobs.proofs.FirstOf.{first-same}
 use Rattle.jobs.specs.Lawful.{LawfulJob}
 use Rattle.jobs.proofs.Components.{in-leads, lead-in}

@@ -23,7 +23,8 @@ use Rattle.jobs.specs.Component.{lowest, leads, component}
 use Rattle.jobs.specs.Family.{componentJob, fits, base, step, chosen, slope, familyRun}
 use Rattle.jobs.specs.Verdict.{planned, firstWithout, verdict}
 use Rattle.jobs.specs.Findings.{findings}
-use Rattle.jobs.specs.Sheet.{laidOut, sheet}
+use Rattle.jobs.specs.SheetLayout.{laidOut}
+use Rattle.jobs.specs.Sheet.{sheet}
 use Rattle.jobs.specs.Demands.{numberOn, baseOn, stepOn, groupOn, fitsOn, chosenOn, gainOn, partOn, memberOn, SolvesGroup, FamilyOn, FamiliesOn, GivesFits}
 use Rattle.jobs.specs.Lawful.{LawfulJob}
 use Rattle.jobs.proofs.Components.{in-leads, lead-in, lowest-self, joined-iff, component-iff, component-below, component-lead}

@@ -24,7 +24,7 @@ use Rattle.families.proofs.FamilyRuns.{one-form-family}
 use Rattle.jobs.specs.Job.{Job, variable}
 use Rattle.jobs.specs.Solution.{number}
 use Rattle.jobs.specs.Component.{lowestBy}
-use Rattle.jobs.specs.Table.{InRange}
+use Rattle.jobs.specs.ReasonTable.{InRange}
 use Rattle.families.specs.Model.{labelAt, runAt, interval, startState}
 use Rattle.families.specs.Invariant.{Keeps, OnFamily, Invariant}
 use Rattle.families.proofs.InvariantStep.{on-family}

@@ -18,15 +18,16 @@ use Rattle.lists.proofs.Sums.{sum-within}
 use Rattle.runs.specs.Run.{bound}
 use Rattle.jobs.specs.Job.{Job, jobOf, variable}
 use Rattle.jobs.specs.Solution.{number, IsSolution, objective, Optimal, best}
-use Rattle.jobs.specs.Layout.{groupRowsAt, sheetLength}
+use Rattle.jobs.specs.SheetOffsets.{groupRowsAt, sheetLength}
 use Rattle.jobs.specs.Component.{lowest, leads}
 use Rattle.jobs.specs.Family.{componentJob}
 use Rattle.jobs.specs.Findings.{findings}
-use Rattle.jobs.specs.Table.{ShortFor, IsFirst}
+use Rattle.jobs.specs.ReasonTable.{ShortFor, IsFirst}
 use Rattle.jobs.specs.Lawful.{LawfulJob}
 use Rattle.jobs.specs.Faults.{firstBroken}
 use Rattle.jobs.specs.Verdict.{Verdict, planned, noFit, refused, firstWithout, outcome, short?, verdict}
-use Rattle.jobs.specs.Sheet.{laidOut, sheet}
+use Rattle.jobs.specs.SheetLayout.{laidOut}
+use Rattle.jobs.specs.Sheet.{sheet}
 use Rattle.jobs.specs.Demands.{worthOn, numberOn, numbersOn, TurnsAway, LaidOut, NoneFits, CannotBeBettered, FamiliesOn, NotTurnedAway, GivesFits}
 use Rattle.jobs.proofs.Faults.{first-by, reported-iff, sound-iff}
 use Rattle.jobs.proofs.Lawful.{lawful-named, lawful}

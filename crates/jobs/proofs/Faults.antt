@@ -13,7 +13,7 @@ use Rattle.lists.specs.Table.{table, upTo}
 use Rattle.lists.proofs.Members.{in-append, in-flatMap}
 use Rattle.lists.proofs.Table.{in-table, in-upTo}
 use Rattle.jobs.specs.Job.{variableCount, equationCount}
-use Rattle.jobs.specs.Table.{Broken, NoArea, headerChecks, equationChecks, rowChecks, checks, IsFirst}
+use Rattle.jobs.specs.ReasonTable.{Broken, NoArea, headerChecks, equationChecks, rowChecks, checks, IsFirst}
 use Rattle.jobs.specs.Decide.{firstOf}
 use Rattle.jobs.specs.Faults.{broken?, firstBroken, noArea?, accepted, refused, answered, checked, ChecksExactly}
 use Rattle.jobs.proofs.FirstOf.{first-none, first-here, first-later, first-past, first-stays, first-without, first-iff, first-same, none-holds, holds-none}

@@ -7,7 +7,7 @@ use Rattle.lists.specs.Members.{_∈_, here, there}
 use Rattle.lists.specs.Rising.{Rising}
 use Rattle.lists.proofs.Members.{in-append}
 use Rattle.lists.proofs.Rising.{rising-behind}
-use Rattle.jobs.specs.Table.{First}
+use Rattle.jobs.specs.ReasonTable.{First}
 use Rattle.jobs.specs.Decide.{firstOf}
 
 module _ {A : Type 0} {P : A → Type 0} (d : (x : A) → Dec (P x)) where

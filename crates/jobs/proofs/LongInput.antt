@@ -14,7 +14,7 @@ use Rattle.reasons.specs.Numbers.{numberOf, rowOf}
 use Rattle.bytes.specs.LittleEndian.{unsigned}
 use Rattle.jobs.specs.Job.{jobOf, variableCount, equationCount}
 use Rattle.jobs.specs.Solution.{objective, best}
-use Rattle.jobs.specs.Table.{mark, Header, headerChecks, rowChecks, checks}
+use Rattle.jobs.specs.ReasonTable.{mark, Header, headerChecks, rowChecks, checks}
 use Rattle.jobs.specs.Decide.{atMost?, below?, either, list?, firstOf}
 use Rattle.jobs.specs.Faults.{broken?, firstBroken}
 use Rattle.jobs.specs.Verdict.{refused, firstWithout, outcome, short?, verdict}

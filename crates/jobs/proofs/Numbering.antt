@@ -13,10 +13,10 @@ use Rattle.lists.proofs.Members.{member-at}
 use Rattle.lists.proofs.Rising.{same-members, rising-at}
 use Rattle.lists.proofs.Table.{in-table, rising-table, length-table, table-at, in-upTo, rising-upTo, length-upTo}
 use Rattle.jobs.specs.Job.{Job}
-use Rattle.jobs.specs.Layout.{sheetLength}
+use Rattle.jobs.specs.SheetOffsets.{sheetLength}
 use Rattle.jobs.specs.Component.{IsLead, Numbered, lowest, leads, componentCount, component}
 use Rattle.jobs.specs.Decide.{below?}
-use Rattle.jobs.specs.Table.{ShortFor}
+use Rattle.jobs.specs.ReasonTable.{ShortFor}
 use Rattle.jobs.proofs.Components.{lowest-joined, lowest-least, lowest-le, in-leads, rising-leads, component-at, component-below, component-lead, component-iff}
 
 module _ (j : Job) where

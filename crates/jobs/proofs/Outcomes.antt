@@ -9,12 +9,13 @@ use Rattle.reasons.specs.declared.Reason.{Reason}
 use Rattle.reasons.specs.declared.Reason.the-variants.{ShortJob, WrongMark, TooMany, WrongHeader, ShortArea}
 use Rattle.jobs.specs.Job.{Job, jobOf}
 use Rattle.jobs.specs.Solution.{objective, best}
-use Rattle.jobs.specs.Layout.{sheetLength}
+use Rattle.jobs.specs.SheetOffsets.{sheetLength}
 use Rattle.jobs.specs.Findings.{findings}
-use Rattle.jobs.specs.Table.{rowChecks, checks}
+use Rattle.jobs.specs.ReasonTable.{rowChecks, checks}
 use Rattle.jobs.specs.Faults.{broken?, noArea?, accepted, refused as turned, answered, checked}
 use Rattle.jobs.specs.Verdict.{planned, noFit, refused, firstWithout, outcome, short?, verdict}
-use Rattle.jobs.specs.Sheet.{laidOut, sheet}
+use Rattle.jobs.specs.SheetLayout.{laidOut}
+use Rattle.jobs.specs.Sheet.{sheet}
 use Rattle.jobs.proofs.FirstOf.{first-here}
 use Rattle.jobs.proofs.Faults.{fault-checked, fault-short, fault-none, accepted-none, refused-some}
 use Rattle.jobs.proofs.SheetFields.{if-planned, if-noFit, if-refused}

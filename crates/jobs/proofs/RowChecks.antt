@@ -7,7 +7,7 @@ use Rattle.reasons.specs.declared.Reason.{Reason}
 use Rattle.reasons.specs.declared.Reason.the-variants.{VariableRange, EquationVariables, EquationRange}
 use Rattle.lists.specs.Table.{tableFrom, table, upTo}
 use Rattle.lists.proofs.Table.{from-next, from-end, from-start}
-use Rattle.jobs.specs.Table.{Broken, NoArea, equationChecks}
+use Rattle.jobs.specs.ReasonTable.{Broken, NoArea, equationChecks}
 use Rattle.jobs.specs.Decide.{firstOf}
 use Rattle.jobs.specs.Faults.{broken?, noArea?}
 use Rattle.jobs.proofs.FirstOf.{first-none, first-here, first-later}

@@ -17,12 +17,12 @@ use Rattle.lists.proofs.Lexicographic.{lower-asym}
 use Rattle.bytes.specs.LittleEndian.{unsigned}
 use Rattle.jobs.specs.Job.{Job, jobOf, variable}
 use Rattle.jobs.specs.Solution.{number, IsSolution, best}
-use Rattle.jobs.specs.Layout.{sheetLength}
+use Rattle.jobs.specs.SheetOffsets.{sheetLength}
 use Rattle.jobs.specs.Component.{Joined, IsLead, lowest, leads}
 use Rattle.jobs.specs.Family.{componentJob, fits, base}
 use Rattle.jobs.specs.Faults.{accepted, refused as turned, checked}
 use Rattle.jobs.specs.Verdict.{planned, noFit, refused, firstWithout, short?}
-use Rattle.jobs.specs.Sheet.{answerMark}
+use Rattle.jobs.specs.SheetLayout.{answerMark}
 use Rattle.jobs.specs.Demands.{numberOn, groupOn, fitsOn, numbersOn, memberOn, TurnsAway, FamilyOn, NotTurnedAway, GivesFits, CannotBeBettered}
 use Rattle.jobs.specs.JobBytes.{plus, header, count, plain, difference}
 use Rattle.jobs.proofs.Faults.{fault-checked, fault-none, accepted-none, refused-some}

@@ -16,11 +16,12 @@ use Rattle.lists.proofs.Places.{length-both, drop-past, length-flatMap}
 use Rattle.lists.proofs.Table.{in-upTo, table-at, length-upTo}
 use Rattle.bytes.specs.LittleEndian.{unsigned, i64, bytesOf, signedBytes}
 use Rattle.jobs.specs.Job.{Job, jobOf}
-use Rattle.jobs.specs.Layout.{sheetLength}
+use Rattle.jobs.specs.SheetOffsets.{sheetLength}
 use Rattle.jobs.specs.Component.{componentCount, component}
 use Rattle.jobs.specs.Findings.{Findings, findings}
 use Rattle.jobs.specs.Verdict.{Verdict, planned, noFit, refused, verdict}
-use Rattle.jobs.specs.Sheet.{sheetHeader, sheetVariable, sheetGroup, sheetVariables, sheetGroups, laidOut, areaAfter, sheet}
+use Rattle.jobs.specs.SheetLayout.{sheetHeader, sheetVariable, sheetGroup, sheetVariables, sheetGroups, laidOut}
+use Rattle.jobs.specs.Sheet.{areaAfter, sheet}
 use Rattle.jobs.specs.Demands.{worthOn, numberOn, baseOn, stepOn, LaidOut}
 use Rattle.bytes.proofs.LittleEndian.{unsigned-first, unsigned-past, unsigned-part, unsigned-bytesOf}
 use Rattle.bytes.proofs.TwosComplement.{Holds, within-holds, signed-field}

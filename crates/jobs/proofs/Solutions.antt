@@ -22,7 +22,8 @@ use Rattle.lists.proofs.Range.{in-range, rising-range}
 use Rattle.lists.proofs.Lexicographic.{lower-asym, lower-trans, Compared, lower, equal, higher, compared}
 use Rattle.lists.proofs.Best.{bestOf-best, is-bestOf, beats-asym, beats-trans, beats-compared}
 use Rattle.jobs.specs.Job.{Variable, Equation, Job, noVariable, noEquation, equation}
-use Rattle.jobs.specs.Solution.{Earlier, Optimal, number, value, IsSolution, fronts, box, solutions, objective, Better, best}
+use Rattle.jobs.specs.TieBreak.{Earlier}
+use Rattle.jobs.specs.Solution.{Optimal, number, value, IsSolution, fronts, box, solutions, objective, Better, best}
 
 -- ---- the box: the lists within the bounds, in lexicographic order
 in-fronts : (xs : List ℤ) (rest : List (List ℤ)) (z : List ℤ) → z ∈ fronts xs rest ↔ ((x : ℤ) × (ys : List ℤ) × (x ∈ xs) × (ys ∈ rest) × (z ≡ x ∷ ys))

@@ -6,7 +6,7 @@ use native.Mathlib.Omega.{arith}
 use lib.ListN.{length, getD}
 use Rattle.lists.proofs.Table.{length-table, table-at}
 use Rattle.jobs.specs.Job.{Variable, Job, variable, equation, noVariable}
-use Rattle.jobs.specs.Table.{InRange}
+use Rattle.jobs.specs.ReasonTable.{InRange}
 use Rattle.jobs.specs.Lawful.{LawfulJob, LawfulEquation}
 use Rattle.jobs.specs.Bounds.{Bounds, noBounds, withBounds, BoundedBy}
 

@@ -13,11 +13,11 @@ use Rattle.lists.specs.Table.{table}
 use Rattle.bytes.specs.LittleEndian.{u16, u32, i32, i64}
 use Rattle.jobs.specs.Job.{Job, jobOf, variable, equation}
 use Rattle.jobs.specs.Solution.{number, value, IsSolution, objective, Optimal}
-use Rattle.jobs.specs.Layout.{groupRowsAt}
+use Rattle.jobs.specs.SheetOffsets.{groupRowsAt}
 use Rattle.jobs.specs.Component.{Joined, IsLead, Numbered}
-use Rattle.jobs.specs.Table.{ShortFor, Reported}
+use Rattle.jobs.specs.ReasonTable.{ShortFor, Reported}
 use Rattle.jobs.specs.Verdict.{Verdict, planned, noFit, refused}
-use Rattle.jobs.specs.Sheet.{answerMark}
+use Rattle.jobs.specs.SheetLayout.{answerMark}
 
 -- ---- what stands on a sheet: document 01, "The sheet"; j says how many rows there are
 

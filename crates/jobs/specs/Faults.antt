@@ -16,7 +16,7 @@ use Rattle.runs.proofs.Refusals.{in-limits-iff}
 use Rattle.bytes.specs.LittleEndian.{u32}
 use Rattle.jobs.specs.Decide.{tested, below?, atMost?, equal?, within?, by, both, either, not?, list?, firstOf}
 use Rattle.jobs.specs.Job.{Variable, Equation, jobOf, form, variableCount, equationCount, equationRowAt, variable, equation}
-use Rattle.jobs.specs.Table.{mark, Header, InRange, Coefficients, Misnamed, Broken, NoArea, checks, Reported}
+use Rattle.jobs.specs.ReasonTable.{mark, Header, InRange, Coefficients, Misnamed, Broken, NoArea, checks, Reported}
 
 -- ---- each condition of the table can be decided
 abbrev pub header? : (s : List ℕ) → Dec (Header s)

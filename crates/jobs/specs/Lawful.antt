@@ -4,7 +4,7 @@ use mathlib.Core.List.{List}
 use Prim.Native.Nat.{ℕ, _≤_, _<_}
 use lib.ListN.{length}
 use Rattle.jobs.specs.Job.{Equation, Job, jobOf, RowsInside, variable, equation}
-use Rattle.jobs.specs.Table.{InRange, Coefficients}
+use Rattle.jobs.specs.ReasonTable.{InRange, Coefficients}
 
 -- an equation names two different variables below n, and its coefficients are within the limits
 pub record LawfulEquation (n : ℕ) (e : Equation) : Type 0 where

@@ -3,25 +3,29 @@
 
 -- the bytes of a job as variables and equations
 pub mod Job
+-- of two fit-outs of equal worth, which comes first
+pub mod TieBreak
 -- fit-outs, their worth, and the best of them
 pub mod Solution
 -- groups
 pub mod Component
--- where the parts of a sheet stand
-pub mod Layout
 -- what is read off the fit-outs of one group
 pub mod Family
 -- all that a report shows
 pub mod Findings
--- the table of reasons
-pub mod Table
+-- where the parts of a sheet stand
+pub mod SheetOffsets
+-- the table of reasons, and its order
+pub mod ReasonTable
 -- statements that can be decided
 pub mod Decide
 -- the first reason that applies, and the answer of the job check
 pub mod Faults
 -- the outcome of a plan
 pub mod Verdict
--- the layout of the sheet, and the answer area after a plan
+-- the layout of the sheet
+pub mod SheetLayout
+-- the answer area after a plan
 pub mod Sheet
 -- the three demands
 pub mod Demands

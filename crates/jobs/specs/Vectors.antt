@@ -11,11 +11,12 @@ use Rattle.lists.proofs.Maps.{same-values}
 use Rattle.bytes.specs.LittleEndian.{u16, u32}
 use Rattle.jobs.specs.Job.{Job, jobOf}
 use Rattle.jobs.specs.Solution.{number, solutions, objective, best}
-use Rattle.jobs.specs.Layout.{groupRowsAt}
+use Rattle.jobs.specs.SheetOffsets.{groupRowsAt}
 use Rattle.jobs.specs.Component.{lowest, leads, componentCount, component}
 use Rattle.jobs.specs.Family.{componentJob, base, step, chosen, slope}
 use Rattle.jobs.specs.Verdict.{Verdict, planned, noFit, refused, verdict}
-use Rattle.jobs.specs.Sheet.{answerMark, sheet}
+use Rattle.jobs.specs.SheetLayout.{answerMark}
+use Rattle.jobs.specs.Sheet.{sheet}
 use Rattle.jobs.specs.JobBytes.{plus, minus, header, count, plain, equationBytes, total, difference}
 use Rattle.jobs.specs.Demands.{worthOn, baseOn, stepOn, groupOn, zeroOn, fitsOn, chosenOn, gainOn, numbersOn, memberOn}
 

@@ -11,7 +11,7 @@ use Rattle.jobs.specs.Decide.{below?, equal?, firstOf}
 use Rattle.jobs.specs.Job.{Job, jobOf}
 use Rattle.jobs.specs.Faults.{firstBroken}
 use Rattle.jobs.specs.Solution.{objective, best}
-use Rattle.jobs.specs.Layout.{sheetLength}
+use Rattle.jobs.specs.SheetOffsets.{sheetLength}
 use Rattle.jobs.specs.Component.{leads}
 use Rattle.jobs.specs.Family.{componentJob, fits}
 

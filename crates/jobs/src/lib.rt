@@ -8,7 +8,7 @@ ghost use Rattle.lists.specs.Table.{table, upTo};
 ghost use Rattle.reasons.specs.declared.Reason.the-variants.{VariableRange};
 ghost use Rattle.jobs.specs.Job.{RowsInside, variableCount, equationCount};
 ghost use Rattle.jobs.specs.Decide.{firstOf};
-ghost use Rattle.jobs.specs.Table.{equationChecks, rowChecks};
+ghost use Rattle.jobs.specs.ReasonTable.{equationChecks, rowChecks};
 ghost use Rattle.jobs.specs.Faults.{broken?, noArea?, faultOf, answerOf, checked, ChecksExactly};
 use reasons::Reason;
 

@@ -5,7 +5,7 @@ ghost use mathlib.Core.Bool.{true};
 ghost use mathlib.Core.Logic.{_↔_};
 ghost use Prim.Native.Nat.{_<_};
 ghost use Rattle.jobs.specs.Job.{jobOf, RowsInside, variableCount, equationCount, variable, equation, form};
-ghost use Rattle.jobs.specs.Table.{InRange, Misnamed, Coefficients};
+ghost use Rattle.jobs.specs.ReasonTable.{InRange, Misnamed, Coefficients};
 use crate::Equation;
 use crate::Variable;
 

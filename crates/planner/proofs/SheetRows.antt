@@ -10,7 +10,7 @@ use Rattle.lists.specs.Table.{table, upTo}
 use Rattle.lists.proofs.Maps.{flatMap-same, flatMap-both}
 use Rattle.lists.proofs.Table.{table-next, in-upTo}
 use Rattle.runs.specs.declared.Run.{Run}
-use Rattle.jobs.specs.Sheet.{sheetVariable, sheetGroup, sheetVariables, sheetGroups}
+use Rattle.jobs.specs.SheetLayout.{sheetVariable, sheetGroup, sheetVariables, sheetGroups}
 use Rattle.families.specs.ModelFindings.{leadsBy}
 use Rattle.solver.proofs.LowestVariables.{leads-none, leads-yes, leads-no}
 use Rattle.bytes.specs.Over.{over}

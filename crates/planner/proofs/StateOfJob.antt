@@ -15,7 +15,7 @@ use Rattle.jobs.specs.Component.{lowest, leads, componentCount}
 use Rattle.jobs.specs.Family.{componentJob, fits, familyRun}
 use Rattle.jobs.specs.Findings.{Findings, findings}
 use Rattle.jobs.specs.Verdict.{firstWithout}
-use Rattle.jobs.specs.Sheet.{laidOut}
+use Rattle.jobs.specs.SheetLayout.{laidOut}
 use Rattle.jobs.proofs.Components.{in-leads, lowest-le, lowest-self}
 use Rattle.jobs.proofs.Assembly.{without-iff}
 use Rattle.jobs.proofs.SheetFields.{Agree, same-layout}

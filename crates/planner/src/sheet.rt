@@ -5,7 +5,7 @@ ghost use Prim.Native.Nat.{_+_, _*_, _≤_, _<_};
 ghost use lib.ListN.{length, getD};
 ghost use Rattle.ints.specs.Within.{Within};
 ghost use Rattle.jobs.specs.Solution.{number};
-ghost use Rattle.jobs.specs.Sheet.{answerMark, sheetHeader, sheetVariable, sheetGroup, sheetVariables, sheetGroups, laidOut};
+ghost use Rattle.jobs.specs.SheetLayout.{answerMark, sheetHeader, sheetVariable, sheetGroup, sheetVariables, sheetGroups, laidOut};
 ghost use Rattle.families.specs.FamilyRun.{FamilyRun};
 ghost use Rattle.families.specs.Family.{choice};
 ghost use Rattle.families.specs.ModelFindings.{leadsBy};

@@ -7,7 +7,7 @@ use Prim.Native.Nat.{ℕ}
 use Rattle.reasons.specs.declared.Reason.{Reason}
 use Rattle.reasons.specs.declared.Reason.the-variants.{ShortArea}
 use Rattle.jobs.specs.Decide.{firstOf}
-use Rattle.jobs.specs.Table.{headerChecks, rowChecks, checks}
+use Rattle.jobs.specs.ReasonTable.{headerChecks, rowChecks, checks}
 use Rattle.jobs.specs.Faults.{broken?, noArea?, firstBroken, faultOf, Answer, answered, checked, ChecksExactly}
 use Rattle.jobs.proofs.FirstOf.{first-past, first-stays, first-without}
 use Rattle.jobs.proofs.Faults.{checks-exactly}

@@ -8,7 +8,7 @@ use Prim.Native.Nat.{ℕ, _-_, _≤_}
 use native.Mathlib.Omega.{arith}
 use Rattle.lists.specs.Table.{upTo}
 use Rattle.jobs.specs.Job.{Equation, jobOf, variableCount, equation}
-use Rattle.jobs.specs.Table.{Misnamed, Coefficients, equationChecks}
+use Rattle.jobs.specs.ReasonTable.{Misnamed, Coefficients, equationChecks}
 use Rattle.jobs.specs.Decide.{firstOf}
 use Rattle.jobs.specs.Faults.{broken?, noArea?}
 use Rattle.jobs.proofs.Branches.{passed, failed}

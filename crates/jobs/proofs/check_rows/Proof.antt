@@ -11,7 +11,7 @@ use Rattle.jobs.specs.declared.Checked.{Checked}
 use Rattle.jobs.specs.declared.Checked.the-variants.{Accepted, Refused}
 use Rattle.jobs.specs.Job.{variableCount, equationCount}
 use Rattle.jobs.specs.Decide.{firstOf}
-use Rattle.jobs.specs.Table.{equationChecks, rowChecks}
+use Rattle.jobs.specs.ReasonTable.{equationChecks, rowChecks}
 use Rattle.jobs.specs.Faults.{broken?, noArea?, faultOf}
 use Rattle.jobs.proofs.FirstOf.{first-past, first-stays}
 use borrow.Author.Needs.{needs}

@@ -5,7 +5,7 @@ use Prim.Native.Nat.{_-_, _≤_}
 use native.Mathlib.Omega.{arith}
 use Rattle.reasons.specs.declared.Reason.the-variants.{VariableRange}
 use Rattle.lists.specs.Table.{table}
-use Rattle.jobs.specs.Table.{InRange}
+use Rattle.jobs.specs.ReasonTable.{InRange}
 use Rattle.jobs.specs.Decide.{firstOf}
 use Rattle.jobs.specs.Faults.{broken?, noArea?}
 use Rattle.jobs.proofs.Branches.{passed, failed}

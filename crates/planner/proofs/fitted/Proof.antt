@@ -8,7 +8,7 @@ use lib.ListN.{length}
 use Rattle.ints.specs.Within.{Within}
 use Rattle.jobs.specs.Job.{Job, jobOf, variableCount, equationCount}
 use Rattle.jobs.specs.Lawful.{LawfulJob}
-use Rattle.jobs.specs.Layout.{sheetLength}
+use Rattle.jobs.specs.SheetOffsets.{sheetLength}
 use Rattle.jobs.specs.Component.{componentCount}
 use Rattle.jobs.specs.Verdict.{planned}
 use Rattle.jobs.proofs.Components.{length-leads}

@@ -10,7 +10,7 @@ use Rattle.lists.specs.Table.{Tabulates}
 use Rattle.runs.specs.declared.Run.{Run}
 use Rattle.jobs.specs.Solution.{number}
 use Rattle.jobs.specs.Verdict.{planned}
-use Rattle.jobs.specs.Sheet.{laidOut}
+use Rattle.jobs.specs.SheetLayout.{laidOut}
 use Rattle.jobs.proofs.SheetFields.{same-layout}
 use Rattle.solver.specs.Labels.{Labelled, Lowest}
 use Rattle.solver.specs.StateArrays.{labelIn}

@@ -7,7 +7,7 @@ use lib.ListN.{length}
 use Rattle.ints.proofs.{ℤ, List, arith}
 use Rattle.bytes.specs.LittleEndian.{bytesOf, signedBytes}
 use Rattle.families.specs.Family.{choice}
-use Rattle.jobs.specs.Sheet.{sheetGroup}
+use Rattle.jobs.specs.SheetLayout.{sheetGroup}
 use Rattle.bytes.specs.Over.{over}
 use Rattle.bytes.proofs.LittleEndian.{length-bytesOf}
 use Rattle.bytes.proofs.TwosComplement.{length-signedBytes}

@@ -10,7 +10,7 @@ use lib.IntN.{ℤ, pos}
 use Rattle.runs.specs.declared.Run.{Run}
 use Rattle.families.specs.Family.{choice}
 use Rattle.jobs.specs.Solution.{number}
-use Rattle.jobs.specs.Sheet.{sheetGroup, sheetGroups}
+use Rattle.jobs.specs.SheetLayout.{sheetGroup, sheetGroups}
 use Rattle.jobs.proofs.SheetFields.{length-groups}
 use Rattle.families.specs.ModelFindings.{leadsBy}
 use Rattle.bytes.specs.Over.{over}

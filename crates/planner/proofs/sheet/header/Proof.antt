@@ -6,7 +6,7 @@ use mir.Facts.{toZ-ofZ}
 use lib.ListN.{length}
 use Rattle.ints.proofs.{ℤ, List, arith}
 use Rattle.bytes.specs.LittleEndian.{bytesOf, signedBytes}
-use Rattle.jobs.specs.Sheet.{answerMark, sheetHeader}
+use Rattle.jobs.specs.SheetLayout.{answerMark, sheetHeader}
 use Rattle.bytes.specs.Over.{over}
 use Rattle.bytes.proofs.LittleEndian.{length-bytesOf}
 use Rattle.bytes.proofs.TwosComplement.{length-signedBytes}

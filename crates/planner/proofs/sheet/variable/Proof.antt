@@ -9,7 +9,7 @@ use Rattle.ints.proofs.{ℤ, List, arith}
 use Rattle.ints.proofs.Signed.{held}
 use Rattle.runs.specs.declared.Run.{Run}
 use Rattle.bytes.specs.LittleEndian.{bytesOf, signedBytes}
-use Rattle.jobs.specs.Sheet.{sheetVariable}
+use Rattle.jobs.specs.SheetLayout.{sheetVariable}
 use Rattle.families.proofs.FamilySizes.{first-within, step-within}
 use Rattle.bytes.specs.Over.{over}
 use Rattle.bytes.proofs.LittleEndian.{length-bytesOf}

@@ -9,7 +9,7 @@ use lib.IntN.{ℤ}
 use Rattle.ints.specs.Within.{Within}
 use Rattle.runs.specs.declared.Run.{Run}
 use Rattle.jobs.specs.Solution.{number}
-use Rattle.jobs.specs.Sheet.{sheetVariable, sheetVariables}
+use Rattle.jobs.specs.SheetLayout.{sheetVariable, sheetVariables}
 use Rattle.jobs.proofs.SheetFields.{length-variables}
 use Rattle.solver.specs.StateArrays.{runIn}
 use Rattle.solver.proofs.In64Bits.{held-within}

@@ -11,7 +11,7 @@ use mir.Facts.{toZ-ofZ}
 use Rattle.lists.specs.Table.{Tabulates}
 use Rattle.runs.specs.declared.Run.{Run}
 use Rattle.jobs.specs.Solution.{number}
-use Rattle.jobs.specs.Sheet.{sheetHeader, sheetVariables, sheetGroups, laidOut}
+use Rattle.jobs.specs.SheetLayout.{sheetHeader, sheetVariables, sheetGroups, laidOut}
 use Rattle.jobs.proofs.SheetFields.{length-header, length-variables, length-groups}
 use Rattle.families.specs.ModelFindings.{leadsBy, componentBy}
 use Rattle.solver.specs.StateArrays.{labelIn, runIn}

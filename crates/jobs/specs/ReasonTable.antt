@@ -13,7 +13,7 @@ use Rattle.lists.specs.Table.{table, upTo}
 use Rattle.runs.specs.Run.{bound}
 use Rattle.runs.specs.Workings.{CarryLimits}
 use Rattle.bytes.specs.LittleEndian.{unsigned, u32}
-use Rattle.jobs.specs.Layout.{groupRowsAt}
+use Rattle.jobs.specs.SheetOffsets.{groupRowsAt}
 use Rattle.jobs.specs.Component.{Numbered}
 use Rattle.jobs.specs.Job.{Variable, Equation, Job, jobOf, form, variableCount, equationCount, equationRowAt, variable, equation}
 
