@@ -1,17 +1,17 @@
 -- An equation a·p + b·q = c between the runs of two families: the p that some q completes,
--- and where they and their partners stand in the two families, upwards and downwards.
+-- and where they and their partners stand in the two families.
 use mathlib.Core.Logic.{_↔_, Iff·trans}
 use Prim.Native.Nat.{_≤_}
-use Rattle.ints.proofs.{ℤ, pos, negℤ, _+ℤ_, _-ℤ_, _*ℤ_}
+use Rattle.ints.proofs.{ℤ}
 use Rattle.runs.specs.declared.Run.{Run}
 use Rattle.runs.specs.Run.{InRun, OneForm}
 use Rattle.runs.specs.Search.{meet, Partner, carry}
 use Rattle.runs.specs.declared.Equation.{Equation}
 use Rattle.runs.specs.Workings.{CarryLimits}
 use Rattle.runs.proofs.MeetAndCarry.{joined-form, in-joined}
-use Rattle.families.specs.FamilyRun.{FamilyRun, turned, upward, indexOf, strideIn, across}
+use Rattle.families.specs.FamilyRun.{FamilyRun, upward, indexOf, strideIn, across}
 use Rattle.families.proofs.FamilyRuns.{in-upward, upward-form, one-form-moves}
-use Rattle.families.proofs.ExactQuotients.{Indexed, indexed, turned-indexed, Across, is-across, partner-indexed}
+use Rattle.families.proofs.ExactQuotients.{Indexed, indexed, Across, is-across, partner-indexed}
 
 module _ {e : Equation} (lim : CarryLimits e) {P Q : Run} (f : FamilyRun P) (g : FamilyRun Q) where
   -- the p that are joined, upwards
@@ -46,10 +46,3 @@ module _ {e : Equation} (lim : CarryLimits e) {P Q : Run} (f : FamilyRun P) (g :
 
     pub right : Indexed Q S (indexOf Q (S .first)) (strideIn Q (S .step))
     right = partner-indexed (g .moves) (one-form-moves join-form) (lim .left-not-zero) (lim .right-not-zero) some (λ p h. in-join p .0 h .1)
-
-    -- downwards
-    pub left-down : Indexed P (turned R) (indexOf P (R .first) +ℤ strideIn P (R .step) *ℤ (pos (R .many) -ℤ pos 1)) (negℤ (strideIn P (R .step)))
-    left-down = turned-indexed left
-
-    pub right-down : Indexed Q (turned S) (indexOf Q (S .first) +ℤ strideIn Q (S .step) *ℤ (pos (R .many) -ℤ pos 1)) (negℤ (strideIn Q (S .step)))
-    right-down = turned-indexed right

@@ -10,7 +10,6 @@ use native.Mathlib.Decide.{ℕ-discrete}
 use lib.Dec.{eqb}
 use lib.ListN.{length, getD, drop}
 use borrow.Author.Tests.{eq-eqb, ne-eqb}
-use Rattle.ints.specs.Within.{Within}
 use Rattle.ints.proofs.{ℤ, pos, _+ℤ_, _*ℤ_, _<ℤ_, arith}
 use Rattle.lists.specs.Members.{_∈_}
 use Rattle.lists.proofs.Table.{table-at, same-table}

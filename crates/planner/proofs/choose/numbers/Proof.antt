@@ -1,9 +1,9 @@
 -- `numbers` meets its contract.
 use mathlib.Core.Path.{_≡_, _∙_, ap}
-use Prim.Native.Nat.{ℕ, _-_, _≤_, _<_}
+use Prim.Native.Nat.{_-_, _≤_}
 use native.Mathlib.Omega.{arith}
 use borrow.Author.Needs.{needs}
-use lib.IntN.{ℤ, pos}
+use lib.IntN.{pos}
 use Rattle.lists.proofs.ArrayPass.{Filled, unfilled, filled}
 use Rattle.jobs.specs.Solution.{number}
 use Rattle.solver.specs.StateArrays.{labelIn, runIn}
