@@ -71,17 +71,17 @@ module _ (p : ℕ) (x : ℤ) (a : negℤ (pos p) ≤ℤ (pos 2 *ℤ x)) (b : (po
       go r (inr (h, e)) = lin (x ∷ pos r ∷ pos p ∷ []) (h & e) (search facts depth 20) (omega arith)
 
 -- the numbers that k bytes hold in two's complement: from −256ᵏ/2 to below 256ᵏ/2
-pub record Holds (k : ℕ) (x : ℤ) : Type 0 where
+pub record FitsBytes (k : ℕ) (x : ℤ) : Type 0 where
   pub low : negℤ (pos (256 ^ k)) ≤ℤ (pos 2 *ℤ x)
   pub high : (pos 2 *ℤ x) <ℤ pos (256 ^ k)
 
 double : (p m : ℕ) (x : ℤ) → 2 * m < p → Within m x → (negℤ (pos p) ≤ℤ (pos 2 *ℤ x)) × ((pos 2 *ℤ x) <ℤ pos p)
 double p m x h w = lin (x ∷ pos p ∷ []) w (search facts depth 20) (omega arith)
 
-pub within-holds : (k m : ℕ) (x : ℤ) → 2 * m < 256 ^ k → Within m x → Holds k x
-within-holds k m x h w = let (a, b) = double (256 ^ k) m x h w in record { low = a; high = b }
+pub within-fits : (k m : ℕ) (x : ℤ) → 2 * m < 256 ^ k → Within m x → FitsBytes k x
+within-fits k m x h w = let (a, b) = double (256 ^ k) m x h w in record { low = a; high = b }
 
-twosComplement-back : (k : ℕ) (x : ℤ) → Holds k x → twosComplement k (natAbs (floorMod x (pos (256 ^ k)))) ≡ x
+twosComplement-back : (k : ℕ) (x : ℤ) → FitsBytes k x → twosComplement k (natAbs (floorMod x (pos (256 ^ k)))) ≡ x
 twosComplement-back k x h = back (256 ^ k) x (h .low) (h .high)
 
 signedBytes-is : (k : ℕ) (x : ℤ) → signedBytes k x ≡ bytesOf k (natAbs (floorMod x (pos (256 ^ k))))
@@ -89,14 +89,14 @@ unfolding signedBytes
 signedBytes-is k x = refl
 
 -- so k bytes of such a number read as that number
-pub signed-back : (k : ℕ) (x : ℤ) → Holds k x → twosComplement k (unsigned k (signedBytes k x) 0) ≡ x
+pub signed-back : (k : ℕ) (x : ℤ) → FitsBytes k x → twosComplement k (unsigned k (signedBytes k x) 0) ≡ x
 signed-back k x h =
     let r = natAbs (floorMod x (pos (256 ^ k))) in
     ap (twosComplement k) (ap (λ s. unsigned k s 0) (signedBytes-is k x) ∙ unsigned-bytesOf k r (below (256 ^ k) x (h .low) (h .high)))
     ∙ twosComplement-back k x h
 
 -- and so does a field that holds them
-pub signed-field : (k : ℕ) {u : ℕ} (x : ℤ) → u ≡ unsigned k (signedBytes k x) 0 → Holds k x → twosComplement k u ≡ x
+pub signed-field : (k : ℕ) {u : ℕ} (x : ℤ) → u ≡ unsigned k (signedBytes k x) 0 → FitsBytes k x → twosComplement k u ≡ x
 signed-field k x e h = ap (twosComplement k) e ∙ signed-back k x h
 
 -- as the code writes them: the bytes of what is left of a number that a local holds

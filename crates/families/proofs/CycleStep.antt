@@ -17,7 +17,7 @@ use Rattle.runs.specs.declared.Equation.{Equation as Form}
 use Rattle.runs.specs.Run.{nth, InRun, empty}
 use Rattle.runs.proofs.Members.{not-in-empty}
 use Rattle.families.specs.Model.{alone, coefficient, residual, inRange, candidate, cycle}
-use Rattle.families.proofs.Subfamily.{Holds, at-rest, Picks, picks-empty}
+use Rattle.families.proofs.Subfamily.{HoldsAt, at-rest, Picks, picks-empty}
 
 -- s has just the indices below many of which P holds, and at most one
 pub record Single (many : ℕ) (P : ℕ → Type 0) (s : Run) : Type 0 where
@@ -67,13 +67,13 @@ quotient v d many nz = go (isEqual (floorMod v d) (pos 0)) refl
 
 -- ---- the equation at index k of both runs, in terms of k
 module _ (e : Form) (P Q : Run) where
-  at-index : (k : ℕ) → Holds e (nth P k) (nth Q k) ↔ (coefficient e P Q *ℤ pos k ≡ residual e P Q)
+  at-index : (k : ℕ) → HoldsAt e (nth P k) (nth Q k) ↔ (coefficient e P Q *ℤ pos k ≡ residual e P Q)
   at-index k = lin₀ (e .a ∷ e .b ∷ e .c ∷ P .first ∷ P .step ∷ Q .first ∷ Q .step ∷ pos k ∷ []) (search facts depth 20) (omega arith)
 
   -- redundant where it holds at every index; else it leaves one index or none
   abbrev pub Remains : Option Run → Type 0
-  Remains none = (k : ℕ) → Holds e (nth P k) (nth Q k)
-  Remains (some s) = Single (P .many) (λ k. Holds e (nth P k) (nth Q k)) s
+  Remains none = (k : ℕ) → HoldsAt e (nth P k) (nth Q k)
+  Remains (some s) = Single (P .many) (λ k. HoldsAt e (nth P k) (nth Q k)) s
 
   -- coefficient 0: the index is of no account
   level : coefficient e P Q ≡ pos 0 → (k : ℕ) → coefficient e P Q *ℤ pos k ≡ pos 0

@@ -27,7 +27,7 @@ use Rattle.families.proofs.FamilyRuns.{one-form-moves, turned-moves, in
 use Rattle.families.proofs.ExactQuotients.{Indexed, turned-indexed, Across, at-across, across-turned, across-moves}
 use Rattle.families.proofs.JoinedRuns.{join-form, in-join, join-partners, left, right}
 use Rattle.families.specs.Model.{leading, downwards, Indices, commonNumbers, places, directed, join}
-use Rattle.families.proofs.Subfamily.{Holds, Picks, pick, pick-is, pick-below, picks-empty, index-only}
+use Rattle.families.proofs.Subfamily.{HoldsAt, Picks, pick, pick-is, pick-below, picks-empty, index-only}
 
 -- k and l stand at one place of the two runs of indices
 pub record At (i : Indices) (k l : ℕ) : Type 0 where
@@ -41,8 +41,8 @@ pub record Pairs (e : Form) (P Q : Run) (i : Indices) : Type 0 where
   pub left : Picks (i .left) (P .many)
   pub right : Picks (i .right) (Q .many)
   pub many : i .right .many ≡ i .left .many
-  pub holds : (t : ℕ) → t < i .left .many → Holds e (nth P (pick (i .left) t)) (nth Q (pick (i .right) t))
-  pub all : (k l : ℕ) → k < P .many → l < Q .many → Holds e (nth P k) (nth Q l) → At i k l
+  pub holds : (t : ℕ) → t < i .left .many → HoldsAt e (nth P (pick (i .left) t)) (nth Q (pick (i .right) t))
+  pub all : (k l : ℕ) → k < P .many → l < Q .many → HoldsAt e (nth P k) (nth Q l) → At i k l
 
 -- ---- from the run R of the numbers that are common, and the run S of their partners
 -- a step of 0 goes 0 indices
@@ -72,7 +72,7 @@ abbrev Completed : Form → Run → Run → Run → Type 0
 Completed e P Q R = (p : ℤ) → InRun R p ↔ (InRun P p × Partner (e .a) (e .b) (e .c) Q p)
 
 -- so it has the number of P of a pair at which the equation holds
-completes : {e : Form} {P Q R : Run} → Completed e P Q R → {k l : ℕ} → k < P .many → l < Q .many → Holds e (nth P k) (nth Q l) → InRun R (nth P k)
+completes : {e : Form} {P Q R : Run} → Completed e P Q R → {k l : ℕ} → k < P .many → l < Q .many → HoldsAt e (nth P k) (nth Q l) → InRun R (nth P k)
 completes {P} {Q} joined {k} {l} h h′ q =
     joined (nth P k) .1 (record { place = k; below = h; is = refl }, record { q = nth Q l; member = record { place = l; below = h′; is = refl }; holds = q })
 
@@ -135,7 +135,7 @@ module _ {e : Form} (lim : CarryLimits e) {P Q : Run} (f : FamilyRun P) (g : Fam
     right-at : {t : ℕ} → t < R .many → nth S t ≡ nth Q (pick qs t)
     right-at {t} h = indexed-at j t (pick qs t) (pick-is rights (also h))
 
-    find : (k l : ℕ) → k < P .many → l < Q .many → Holds e (nth P k) (nth Q l) → At (record { left = ps; right = qs }) k l
+    find : (k l : ℕ) → k < P .many → l < Q .many → HoldsAt e (nth P k) (nth Q l) → At (record { left = ps; right = qs }) k l
     find k l h h′ q = go (completes joined h h′ q)
       where
         partner : (p p′ u v : ℤ) → p ≡ p′ → e .a *ℤ p +ℤ e .b *ℤ u ≡ e .c → e .a *ℤ p′ +ℤ e .b *ℤ v ≡ e .c → u ≡ v

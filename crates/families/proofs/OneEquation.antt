@@ -13,7 +13,7 @@ use Rattle.runs.specs.Run.{nth, InRun}
 use Rattle.runs.specs.Workings.{CarryLimits}
 use Rattle.families.specs.FamilyRun.{FamilyRun}
 use Rattle.families.specs.Model.{leading, Indices, cycle, commonNumbers, join, bothSides, kept}
-use Rattle.families.proofs.Subfamily.{Holds, Picks, pick, pick-is, pick-below}
+use Rattle.families.proofs.Subfamily.{HoldsAt, Picks, pick, pick-is, pick-below}
 use Rattle.families.proofs.CycleStep.{Remains, cycle-leaves}
 use Rattle.families.proofs.JoinStep.{At, Pairs, join-pairs, join-rises}
 
@@ -24,13 +24,13 @@ pub record Leaves (e : Form) (l r : ℕ) (P Q : Run) (i : Indices) : Type 0 wher
   pub right : Picks (i .right) (Q .many)
   pub many : i .right .many ≡ i .left .many
   pub one : l ≡ r → i .left ≡ i .right
-  pub holds : (t : ℕ) → t < i .left .many → Holds e (nth P (pick (i .left) t)) (nth Q (pick (i .right) t))
-  pub all : (k k′ : ℕ) → k < P .many → k′ < Q .many → (l ≡ r → k ≡ k′) → Holds e (nth P k) (nth Q k′) → At i k k′
+  pub holds : (t : ℕ) → t < i .left .many → HoldsAt e (nth P (pick (i .left) t)) (nth Q (pick (i .right) t))
+  pub all : (k k′ : ℕ) → k < P .many → k′ < Q .many → (l ≡ r → k ≡ k′) → HoldsAt e (nth P k) (nth Q k′) → At i k k′
   pub rises : 2 ≤ i .left .many → pos 0 <ℤ leading (ltb l r) i .step
 
 -- redundant, or what it leaves
 abbrev pub Kept : Form → ℕ → ℕ → Run → Run → Option Indices → Type 0
-Kept e l r P Q none = (l ≡ r) × ((k : ℕ) → Holds e (nth P k) (nth Q k))
+Kept e l r P Q none = (l ≡ r) × ((k : ℕ) → HoldsAt e (nth P k) (nth Q k))
 Kept e l r P Q (some i) = Leaves e l r P Q i
 
 module _ (e : Form) (l r : ℕ) (P Q : Run) where
@@ -42,7 +42,7 @@ module _ (e : Form) (l r : ℕ) (P Q : Run) where
     many = refl;
     one = λ q. refl;
     holds = λ t b. h .all (pick s t) (pick-below (h .picks) b) .1 (record { place = t; below = b; is = sym (pick-is (h .picks) b) });
-    all = λ k k′ b b′ same z. found k k′ (same q) (h .all k b .0 (subst (λ n. Holds e (nth P k) (nth Q n)) (sym (same q)) z));
+    all = λ k k′ b b′ same z. found k k′ (same q) (h .all k b .0 (subst (λ n. HoldsAt e (nth P k) (nth Q n)) (sym (same q)) z));
     rises = λ b. absurd (omega (arith, b, h .few));
   }
     where

@@ -29,7 +29,7 @@ use Rattle.jobs.specs.Lawful.{LawfulJob}
 use Rattle.jobs.proofs.Components.{in-leads, lead-in, lowest-self, joined-iff, component-iff, component-below, component-lead}
 use Rattle.jobs.proofs.Numbering.{lead-iff, group-is}
 use Rattle.jobs.proofs.Assembly.{none-without, component-length, outside-zero, solves-iff}
-use Rattle.bytes.proofs.TwosComplement.{within-holds}
+use Rattle.bytes.proofs.TwosComplement.{within-fits}
 use Rattle.jobs.proofs.SheetFields.{number-back, base-back, step-back, fits-back, chosen-back, gain-back, laidOut-back, if-planned}
 use Rattle.jobs.proofs.DemandsHold.{optimal-best, number-within, planned-when, lawful-of, gives-fits}
 use Rattle.families.specs.Family.{member, IsFamily}
@@ -115,7 +115,7 @@ module _ (j : Job) (lawful : LawfulJob j) (full : firstWithout j ≡ none) (rest
     own-chosen = chosen-back (findings j) rest g l (component-below j l below) lead (omega (arith, fits-small, many-is, chosen-below l m))
 
     own-gain : gainOn j after g ≡ slope c
-    own-gain = gain-back (findings j) rest g l (component-below j l below) lead (within-holds 8 (n * (1000000 * (2 * bound))) (slope c) (omega (arith, lawful .variables)) (slope-within j lawful l))
+    own-gain = gain-back (findings j) rest g l (component-below j l below) lead (within-fits 8 (n * (1000000 * (2 * bound))) (slope c) (omega (arith, lawful .variables)) (slope-within j lawful l))
 
     -- its variables
     inside : (i : ℕ) → i < n → (groupOn after i ≡ g) ↔ (lowest j i ≡ l)

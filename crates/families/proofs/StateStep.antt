@@ -19,7 +19,7 @@ use Rattle.jobs.specs.Solution.{number, value}
 use Rattle.jobs.specs.Component.{lowestBy}
 use Rattle.families.specs.Model.{leading, State, runAt, Indices, through, runAfter}
 use Rattle.families.specs.Invariant.{IsMember, OnFamily, Invariant}
-use Rattle.families.proofs.Subfamily.{after-left, after-right, after-other, Holds, Picks, pick, pick-is, pick-below, same-nat, two-to-pick, through-many, through-step, through-at, through-form}
+use Rattle.families.proofs.Subfamily.{after-left, after-right, after-other, HoldsAt, Picks, pick, pick-is, pick-below, same-nat, two-to-pick, through-many, through-step, through-at, through-form}
 use Rattle.families.proofs.JoinStep.{At}
 use Rattle.families.proofs.OneEquation.{Leaves}
 use Rattle.families.proofs.Labels.{leftLabel, rightLabel, newLabel, InEither, Relabelled, from-left, from-right, stays, relabelled, new-is, to-new, from-new}
@@ -80,7 +80,7 @@ module _ {j : Job} {m : ℕ} {s : State} (named : Named j m) (inv : Invariant j 
   right-many = inv .many (equation j m .right) (named .right)
 
   -- ---- a redundant equation: the components are one already, and it holds at every index
-  module _ (one : leftLabel j m ≡ rightLabel j m) (all : (k : ℕ) → Holds (form (equation j m)) (nth P k) (nth Q k)) where
+  module _ (one : leftLabel j m ≡ rightLabel j m) (all : (k : ℕ) → HoldsAt (form (equation j m)) (nth P k) (nth Q k)) where
     new-left : newLabel j m ≡ leftLabel j m
     new-left = ⊎-elim (λ e. e) (λ e. e ∙ sym one) (new-is j m)
 

@@ -19,8 +19,8 @@ use Rattle.families.proofs.ExactQuotients.{index-one}
 use Rattle.families.specs.Model.{Indices, membersAt, through, runAfter}
 
 -- the equation holds at p and q
-abbrev pub Holds : Form → ℤ → ℤ → Type 0
-Holds e p q = e .a *ℤ p +ℤ e .b *ℤ q ≡ e .c
+abbrev pub HoldsAt : Form → ℤ → ℤ → Type 0
+HoldsAt e p q = e .a *ℤ p +ℤ e .b *ℤ q ≡ e .c
 
 -- a run with step 0 stays where it is
 pub at-rest : (q s : ℤ) (k : ℕ) → s ≡ pos 0 → q +ℤ s *ℤ pos k ≡ q

@@ -31,7 +31,7 @@ use Rattle.jobs.specs.Sheet.{sheet}
 use Rattle.jobs.specs.Demands.{worthOn, numberOn, numbersOn, TurnsAway, LaidOut, NoneFits, CannotBeBettered, FamiliesOn, NotTurnedAway, GivesFits}
 use Rattle.jobs.proofs.Faults.{first-by, reported-iff, sound-iff}
 use Rattle.jobs.proofs.Lawful.{lawful-named, lawful}
-use Rattle.bytes.proofs.TwosComplement.{within-holds}
+use Rattle.bytes.proofs.TwosComplement.{within-fits}
 use Rattle.jobs.proofs.SheetFields.{number-back, worth-back, laidOut-back, if-planned, if-noFit, if-refused, length-sheet, drop-sheet}
 use Rattle.jobs.proofs.Solutions.{best-is}
 use Rattle.jobs.proofs.Components.{in-leads}
@@ -107,7 +107,7 @@ module _ (j : Job) (f : LawfulJob j) where
         at i h = table-at (numberOn laid) (length (j .variables)) i (pos 0) h ∙ number-back (findings j) rest i h (number-within (best j) s i h)
 
     objective-back : worthOn (laidOut (findings j) ++ rest) ≡ objective j (best j)
-    objective-back = worth-back (findings j) rest (within-holds 8 (length (j .variables) * (1000000 * bound)) (objective j (best j)) (omega (arith, f .variables)) (objective-within (best j) s))
+    objective-back = worth-back (findings j) rest (within-fits 8 (length (j .variables) * (1000000 * bound)) (objective j (best j)) (omega (arith, f .variables)) (objective-within (best j) s))
 
 module _ (s area : List ℕ) where
   abbrev pub fault : Option Reason

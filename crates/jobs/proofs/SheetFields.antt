@@ -24,7 +24,7 @@ use Rattle.jobs.specs.SheetLayout.{sheetHeader, sheetVariable, sheetGrou
 use Rattle.jobs.specs.Sheet.{areaAfter, sheet}
 use Rattle.jobs.specs.Demands.{worthOn, numberOn, baseOn, stepOn, LaidOut}
 use Rattle.bytes.proofs.LittleEndian.{unsigned-first, unsigned-past, unsigned-part, unsigned-bytesOf}
-use Rattle.bytes.proofs.TwosComplement.{Holds, within-holds, signed-field}
+use Rattle.bytes.proofs.TwosComplement.{FitsBytes, within-fits, signed-field}
 use Rattle.jobs.proofs.Components.{length-leads, component-below}
 use Rattle.jobs.proofs.Numbering.{numbered-by}
 
@@ -118,7 +118,7 @@ module _ (f : Findings) where
   worth-field = refl
 
   module _ (rest : List ℕ) where
-    pub worth-back : Holds 8 (f .objective) → worthOn (laidOut f ++ rest) ≡ f .objective
+    pub worth-back : FitsBytes 8 (f .objective) → worthOn (laidOut f ++ rest) ≡ f .objective
     worth-back h = signed-field 8 (f .objective) (in-header rest 8 16 (omega arith) ∙ worth-field) h
 
     -- of the row of variable i
@@ -138,13 +138,13 @@ module _ (f : Findings) where
       pub number-back : Within bound (f .assigned i) → numberOn (laidOut f ++ rest) i ≡ f .assigned i
       number-back b =
           let e : 24 + 16 * i ≡ 24 + 16 * i + 0 = omega arith in
-          signed-field 4 (f .assigned i) (ap (unsigned 4 (laidOut f ++ rest)) e ∙ in-variable rest 4 i 0 h (omega arith) ∙ number-field) (within-holds 4 bound (f .assigned i) (omega arith) b)
+          signed-field 4 (f .assigned i) (ap (unsigned 4 (laidOut f ++ rest)) e ∙ in-variable rest 4 i 0 h (omega arith) ∙ number-field) (within-fits 4 bound (f .assigned i) (omega arith) b)
 
       pub base-back : Within bound (f .run i .first) → baseOn (laidOut f ++ rest) i ≡ f .run i .first
-      base-back b = signed-field 4 (f .run i .first) (in-variable rest 4 i 4 h (omega arith) ∙ base-field) (within-holds 4 bound (f .run i .first) (omega arith) b)
+      base-back b = signed-field 4 (f .run i .first) (in-variable rest 4 i 4 h (omega arith) ∙ base-field) (within-fits 4 bound (f .run i .first) (omega arith) b)
 
       pub step-back : Within (2 * bound) (f .run i .step) → stepOn (laidOut f ++ rest) i ≡ f .run i .step
-      step-back b = signed-field 4 (f .run i .step) (in-variable rest 4 i 8 h (omega arith) ∙ step-field) (within-holds 4 (2 * bound) (f .run i .step) (omega arith) b)
+      step-back b = signed-field 4 (f .run i .step) (in-variable rest 4 i 8 h (omega arith) ∙ step-field) (within-fits 4 (2 * bound) (f .run i .step) (omega arith) b)
 
     -- of the row of component g, whose lowest variable is l
     module _ (g l : ℕ) (h : g < length (f .leads)) (lead : getD (f .leads) g 0 ≡ l) where
@@ -171,7 +171,7 @@ module _ (f : Findings) where
       pub chosen-back : f .chosen l < 4294967296 → unsigned 4 (laidOut f ++ rest) (24 + 16 * f .n + 16 * g + 4) ≡ f .chosen l
       chosen-back b = of-row 4 4 (omega arith) ∙ chosen-field ∙ unsigned-bytesOf 4 (f .chosen l) b
 
-      pub gain-back : Holds 8 (f .slope l) → i64 (laidOut f ++ rest) (24 + 16 * f .n + 16 * g + 8) ≡ f .slope l
+      pub gain-back : FitsBytes 8 (f .slope l) → i64 (laidOut f ++ rest) (24 + 16 * f .n + 16 * g + 8) ≡ f .slope l
       gain-back b = signed-field 8 (f .slope l) (of-row 8 8 (omega arith) ∙ gain-field) b
 
     -- an unsigned field of the header, and of a variable's row

@@ -12,7 +12,7 @@ use Rattle.families.specs.Family.{choice}
 use Rattle.families.proofs.BestOfComponent.{choice-below}
 use Rattle.families.proofs.FamilySizes.{member-within}
 use Rattle.planner.specs.Choice.{numberAt}
-use Rattle.solver.proofs.In64Bits.{fits}
+use Rattle.solver.proofs.In64Bits.{fits-64}
 
 module _ {r : Run} (f : FamilyRun r) (some : 1 ≤ r .many) (slope : ℤ) where
   pub number-within : Within bound (numberAt r slope)
@@ -20,4 +20,4 @@ module _ {r : Run} (f : FamilyRun r) (some : 1 ≤ r .many) (slope : ℤ) where
 
   -- as a local holds it
   pub held-number : {x : ℤ} → x ≡ numberAt r slope → held x ≡ numberAt r slope
-  held-number {x} e = ap held e ∙ toZ-ofZ (fits 1000000000 (omega arith) number-within)
+  held-number {x} e = ap held e ∙ toZ-ofZ (fits-64 1000000000 (omega arith) number-within)

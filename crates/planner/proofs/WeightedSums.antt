@@ -11,7 +11,7 @@ use Rattle.ints.proofs.{ℤ, _+ℤ_, _*ℤ_, [], _∷_, arith, lin, _&_, facts,
 use Rattle.ints.proofs.Signed.{held}
 use Rattle.lists.specs.Sums.{sum, pick, sumOf}
 use Rattle.lists.proofs.Sums.{sum-within}
-use Rattle.solver.proofs.In64Bits.{fits}
+use Rattle.solver.proofs.In64Bits.{fits-64}
 
 -- ---- one product more. The locals hold s′, w′ and x′; a product is at most 2,000,000,000,000,000 in size.
 module _ {s w x s′ w′ x′ : ℤ} (p : s′ ≡ s) (q : w′ ≡ w) (r : x′ ≡ x) (a : Within 1000000 w) (b : Within 2000000000 x) (c : Within 600000000000000000 s) where
@@ -22,13 +22,13 @@ module _ {s w x s′ w′ x′ : ℤ} (p : s′ ≡ s) (q : w′ ≡ w) (r : x�
   within-product = within-mul a b
 
   pub fits-product : SFits w64 (w′ *ℤ x′)
-  fits-product = subst (SFits w64) (sym product) (fits 2000000000000000 (omega arith) within-product)
+  fits-product = subst (SFits w64) (sym product) (fits-64 2000000000000000 (omega arith) within-product)
 
   total : s′ +ℤ held (w′ *ℤ x′) ≡ s +ℤ w *ℤ x
   total = ap₂ _+ℤ_ p (toZ-ofZ fits-product ∙ product)
 
   fits-sum : SFits w64 (s +ℤ w *ℤ x)
-  fits-sum = fits 700000000000000000 (omega arith) (lin (s ∷ (w *ℤ x) ∷ []) (c & within-product) (search facts depth 20) (omega arith))
+  fits-sum = fits-64 700000000000000000 (omega arith) (lin (s ∷ (w *ℤ x) ∷ []) (c & within-product) (search facts depth 20) (omega arith))
 
   pub fits-total : SFits w64 (s′ +ℤ held (w′ *ℤ x′))
   fits-total = subst (SFits w64) (sym total) fits-sum

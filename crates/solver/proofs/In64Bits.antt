@@ -14,23 +14,23 @@ use Rattle.families.proofs.FamilySizes.{first-within, step-within, last-within}
 use Rattle.solver.specs.Widths.{Turnable, Crossable}
 
 -- a 64-bit number
-pub fits : {x : ℤ} (n : ℕ) → n < 9223372036854775808 → Within n x → SFits w64 x
-fits {x} n h w = lin (x ∷ pos n ∷ []) (w & h) (search signed depth 20) (omega arith)
+pub fits-64 : {x : ℤ} (n : ℕ) → n < 9223372036854775808 → Within n x → SFits w64 x
+fits-64 {x} n h w = lin (x ∷ pos n ∷ []) (w & h) (search signed depth 20) (omega arith)
 
 -- an element of an array, as a local holds it
 pub held-element : (x : ℤ) → mag x < 9223372036854775808 → held x ≡ x
 held-element x h = toZ-ofZ {w = w64} {z = x} record { sfits = h }
 
 pub held-within : {n : ℕ} {x : ℤ} → n < 9223372036854775808 → Within n x → held x ≡ x
-held-within {n} h w = toZ-ofZ (fits n h w)
+held-within {n} h w = toZ-ofZ (fits-64 n h w)
 
 -- a run's first number and step, as 64-bit locals hold them
 module _ {r : Run} (w : Crossable r) where
   pub fits-first : SFits w64 (r .first)
-  fits-first = fits 1000000000 (omega arith) (w .first)
+  fits-first = fits-64 1000000000 (omega arith) (w .first)
 
   pub fits-step : SFits w64 (r .step)
-  fits-step = fits 2000000000 (omega arith) (w .step)
+  fits-step = fits-64 2000000000 (omega arith) (w .step)
 
   pub held-first : held (r .first) ≡ r .first
   held-first = toZ-ofZ fits-first

@@ -13,7 +13,7 @@ use Rattle.families.specs.FamilyRun.{FamilyRun}
 use Rattle.families.specs.Family.{choice}
 use Rattle.families.proofs.BestOfComponent.{choice-below}
 use Rattle.families.proofs.FamilySizes.{member-within, step-within, many-within}
-use Rattle.solver.proofs.In64Bits.{fits, held-first, held-step, crossable}
+use Rattle.solver.proofs.In64Bits.{fits-64, held-first, held-step, crossable}
 use Rattle.planner.proofs.choose.number.Statement.{statement}
 use Rattle.planner.proofs.choose.number.Tie as tie
 
@@ -32,13 +32,13 @@ module _ (r : Run) (slope : ℤ) (k : ℕ) (f : FamilyRun r) (some : 1 ≤ r .ma
   product = ap₂ _*ℤ_ (held-step (crossable f)) (cast k (omega (arith, below, many-within f)))
 
   fits-product : SFits w64 (r .step *ℤ pos k)
-  fits-product = fits 4000000000000000000 (omega arith) (within-mul (step-within f) small)
+  fits-product = fits-64 4000000000000000000 (omega arith) (within-mul (step-within f) small)
 
   total : held (r .first) +ℤ held (held (r .step) *ℤ toZ w64 k) ≡ r .first +ℤ r .step *ℤ pos k
   total = ap₂ _+ℤ_ (held-first (crossable f)) (ap held product ∙ toZ-ofZ fits-product)
 
   fits-total : SFits w64 (r .first +ℤ r .step *ℤ pos k)
-  fits-total = fits 1000000000 (omega arith) (member-within f k below)
+  fits-total = fits-64 1000000000 (omega arith) (member-within f k below)
 
 choice-requires : tie.Need-choice-requires
 choice-requires c κs = search needs

@@ -20,7 +20,7 @@ use Rattle.families.specs.FamilyRun.{FamilyRun}
 use Rattle.runs.proofs.CarryWidths.{fits-c}
 use Rattle.families.specs.Model.{coefficient, residual, candidate, cycle}
 use Rattle.families.proofs.FamilySizes.{first-within, step-within}
-use Rattle.solver.proofs.In64Bits.{fits, held-first, held-step, crossable}
+use Rattle.solver.proofs.In64Bits.{fits-64, held-first, held-step, crossable}
 use Rattle.solver.proofs.cycle.inside.Statement.{statement}
 use Rattle.solver.proofs.cycle.inside.Tie as tie
 
@@ -64,7 +64,7 @@ module _ {e : Equation} {P Q : Run} {d u : ℤ} (k : Known e P Q d u) where
   v-within = lin (e .c ∷ u ∷ []) (k .lim .constant & u-within) (search facts depth 20) (omega arith)
 
   fits-v : SFits w64 (e .c -ℤ u)
-  fits-v = fits 10000000000000000 (omega arith) v-within
+  fits-v = fits-64 10000000000000000 (omega arith) v-within
 
   v-asked : SFits w64 (held (e .c) -ℤ held u)
   v-asked = rw (toZ-ofZ (fits-c (k .lim)), toZ-ofZ (k .u-fits)) fits-v

@@ -12,7 +12,7 @@ use Rattle.ints.proofs.Answers.{asked, answered}
 use Rattle.runs.specs.declared.Equation.{Equation}
 use Rattle.runs.specs.Workings.{CarryLimits}
 use Rattle.runs.proofs.CarryWidths.{fits-a, fits-c}
-use Rattle.solver.proofs.In64Bits.{fits}
+use Rattle.solver.proofs.In64Bits.{fits-64}
 use Rattle.solver.proofs.join.partner.Statement.{statement}
 use Rattle.solver.proofs.join.partner.Tie as tie
 
@@ -24,10 +24,10 @@ module _ (e : Equation) (p : ℤ) (pre : CarryLimits e × Within 2000000000 p) w
   rest-within = lin (e .a ∷ e .c ∷ p ∷ []) (pre .0 .constant & within-mul (pre .0 .left) (pre .1)) (search facts depth 20) (omega arith)
 
   fits-p : SFits w64 p
-  fits-p = fits 2000000000 (omega arith) (pre .1)
+  fits-p = fits-64 2000000000 (omega arith) (pre .1)
 
   fits-ap : SFits w64 (e .a *ℤ p)
-  fits-ap = fits 2000000000000000 (omega arith) (within-mul (pre .0 .left) (pre .1))
+  fits-ap = fits-64 2000000000000000 (omega arith) (within-mul (pre .0 .left) (pre .1))
 
   limits : DivisionLimits rest (e .b)
   limits = record {
@@ -47,7 +47,7 @@ module _ (e : Equation) (p : ℤ) (pre : CarryLimits e × Within 2000000000 p) w
   rest-is = rw (toZ-ofZ (fits-a (pre .0)), toZ-ofZ (fits-c (pre .0)), toZ-ofZ fits-p, toZ-ofZ fits-ap) refl
 
   rest-fits : SFits w64 rest-held
-  rest-fits = rw rest-is (fits 4000000000000000 (omega arith) rest-within)
+  rest-fits = rw rest-is (fits-64 4000000000000000 (omega arith) rest-within)
 
   rest-asked : DivisionLimits (held rest-held) (held (e .b))
   rest-asked = rw rest-is (asked limits)

@@ -18,16 +18,16 @@ use Rattle.runs.specs.Method.{progression}
 use Rattle.families.specs.Model.{interval}
 use Rattle.jobs.specs.declared.Bounds.{Bounds}
 use Rattle.jobs.specs.Bounds.{Bounded}
-use Rattle.solver.proofs.In64Bits.{fits}
+use Rattle.solver.proofs.In64Bits.{fits-64}
 use Rattle.solver.proofs.range.interval.Statement.{statement}
 use Rattle.solver.proofs.range.interval.Tie as tie
 
 module _ (b : Bounds) (w : Bounded b) where
   fits-low : SFits w64 (b .low)
-  fits-low = fits 1000000000 (omega arith) (w .low)
+  fits-low = fits-64 1000000000 (omega arith) (w .low)
 
   fits-high : SFits w64 (b .high)
-  fits-high = fits 1000000000 (omega arith) (w .high)
+  fits-high = fits-64 1000000000 (omega arith) (w .high)
 
   above : {t : Bool} → ltZ (held (b .high)) (held (b .low)) ≡ t → ltZ (b .high) (b .low) ≡ t
   above h = ap₂ ltZ (sym (toZ-ofZ fits-high)) (sym (toZ-ofZ fits-low)) ∙ h
