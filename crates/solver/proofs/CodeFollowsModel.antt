@@ -63,8 +63,16 @@ same-change : (e : Equation) (s : State) {l l′ r r′ : ℕ} {P P′ Q Q′ : 
     change l r (kept (form e) l r P Q) s ≡ change l′ r′ (kept (form e) l′ r′ P′ Q′) s
 same-change e s a b c d = sym (λ t. change (a t) (b t) (kept (form e) (a t) (b t) (c t) (d t)) s)
 
--- ---- one equation more, whose row is e
-module _ (j : Job) (f : LawfulJob j) (k : ℕ) (b : k < length (j .equations)) (labels : List ℕ) (runs : List Run) (o : Follows j k labels runs) (e : Equation) (is : e ≡ equation j k) where
+-- ---- one equation more
+-- what is known at equation k of a lawful job with n variables, whose row is e
+pub record At (j : Job) (n k : ℕ) (labels : List ℕ) (runs : List Run) (e : Equation) : Type 0 where
+  pub lawful : LawfulJob j
+  pub all : length (j .variables) ≡ n
+  pub below : k < length (j .equations)
+  pub follows : Follows j k labels runs
+  pub row : e ≡ equation j k
+
+module _ {j : Job} {n k : ℕ} {labels : List ℕ} {runs : List Run} {e : Equation} (a : At j n k labels runs e) where
   abbrev S : State
   S = stateAfter j k
 
@@ -81,77 +89,92 @@ module _ (j : Job) (f : LawfulJob j) (k : ℕ) (b : k < length (j .equations)) (
   Q = getD runs (e .right) empty
 
   known : Reached j k S
-  known = reached j f k (omega arith)
+  known = let b = a .below in reached j (a .lawful) k (omega arith)
 
-  lawful : LawfulEquation (length (j .variables)) e
-  lawful = subst (LawfulEquation (length (j .variables))) (sym is) (f .each-equation k b)
+  within : {i : ℕ} → i < n → i < length (j .variables)
+  within h = omega (arith, h, a .all)
 
-  left-below : e .left < length (j .variables)
-  left-below = lawful .left
+  label-is : (i : ℕ) → i < n → getD labels i 0 ≡ labelAt S i
+  label-is i h = a .follows .label i (within h)
 
-  right-below : e .right < length (j .variables)
-  right-below = lawful .right
+  run-is : (i : ℕ) → i < n → getD runs i empty ≡ runAt S i
+  run-is i h = a .follows .run i (within h)
+
+  equation-lawful : LawfulEquation n e
+  equation-lawful = rw (← a .all, a .row) (a .lawful .each-equation k (a .below))
+
+  left-below : e .left < n
+  left-below = equation-lawful .left
+
+  right-below : e .right < n
+  right-below = equation-lawful .right
 
   pub limits : CarryLimits (form e)
-  limits = lawful .coefficients
+  limits = equation-lawful .coefficients
 
-  family : (i : ℕ) → i < length (j .variables) → FamilyRun (getD runs i empty)
-  family i h = subst FamilyRun (sym (o .run i h)) (known .invariant .form i h)
+  family : (i : ℕ) → i < n → FamilyRun (getD runs i empty)
+  family i h = subst FamilyRun (sym (run-is i h)) (known .invariant .form i (within h))
 
-  pub left-family : FamilyRun P
+  pub left-family : FamilyRun (getD runs (e .left) empty)
   left-family = family (e .left) left-below
 
-  pub right-family : FamilyRun Q
+  pub right-family : FamilyRun (getD runs (e .right) empty)
   right-family = family (e .right) right-below
 
   -- labels are not above their variables
-  label-le : (i : ℕ) → i < length (j .variables) → getD labels i 0 ≤ i
-  label-le i h = omega (arith, o .label i h ∙ known .invariant .labels i h, lowestBy-le j k i)
+  label-le : (i : ℕ) → i < n → getD labels i 0 ≤ i
+  label-le i h = omega (arith, label-is i h ∙ known .invariant .labels i (within h), lowestBy-le j k i)
 
-  pub labelled : Labelled labels (length (j .variables))
+  pub labelled : Labelled labels n
   labelled = record { at = label-le }
 
-  pub left-label : l < length (j .variables)
+  pub left-label : getD labels (e .left) 0 < n
   left-label = omega (arith, label-le (e .left) left-below, left-below)
 
-  pub right-label : r < length (j .variables)
+  pub right-label : getD labels (e .right) 0 < n
   right-label = omega (arith, label-le (e .right) right-below, right-below)
 
-  -- the model takes the same step
-  next-is : (x : Option Pair) → x ≡ kept (form e) l r P Q → stateAfter j (suc k) ≡ change l r x S
+  -- what the model keeps here, and the step that it takes
+  abbrev pub keeps : Option Pair
+  keeps = kept (form e) l r P Q
+
+  next-is : (x : Option Pair) → x ≡ keeps → stateAfter j (suc k) ≡ change l r x S
   next-is x h =
-      next-by j k ∙ ap (λ e. next e S) (sym is) ∙ next-of e S
-      ∙ same-change e S (o .label (e .left) left-below) (o .label (e .right) right-below) (o .run (e .left) left-below) (o .run (e .right) right-below)
+      next-by j k ∙ ap (λ e. next e S) (sym (a .row)) ∙ next-of e S
+      ∙ same-change e S (label-is (e .left) left-below) (label-is (e .right) right-below) (run-is (e .left) left-below) (run-is (e .right) right-below)
       ∙ ap (λ x. change l r x S) (sym h)
 
-  pub follows-same : none ≡ kept (form e) l r P Q → Follows j (suc k) labels runs
+  pub follows-same : none ≡ keeps → Follows j (suc k) labels runs
   follows-same h =
       let same : stateAfter j (suc k) ≡ S = next-is none h ∙ change-none l r S in
-      record { label = λ i b. o .label i b ∙ ap (λ s. labelAt s i) (sym same); run = λ i b. o .run i b ∙ ap (λ s. runAt s i) (sym same) }
+      record { label = λ i b. a .follows .label i b ∙ ap (λ s. labelAt s i) (sym same); run = λ i b. a .follows .run i b ∙ ap (λ s. runAt s i) (sym same) }
 
   -- with the indices that it keeps
-  module _ (i : Indices) (h : some (indicesBy i) ≡ kept (form e) l r P Q) where
+  module _ (i : Indices) (h : some (indicesBy i) ≡ keeps) where
     abbrev after : ℕ → Run
     after v = runAfter l r (indicesBy i) (getD labels v 0) (getD runs v empty)
 
     model : stateAfter j (suc k) ≡ change l r (some (indicesBy i)) S
     model = next-is (some (indicesBy i)) h
 
-    model-run : (v : ℕ) → v < length (j .variables) → runAt (stateAfter j (suc k)) v ≡ after v
+    model-run : (v : ℕ) → v < n → runAt (stateAfter j (suc k)) v ≡ after v
     model-run v b =
-        ap (λ s. runAt s v) model ∙ run-after l r S (indicesBy i) v (omega (arith, known .sized .runs))
-        ∙ ap₂ (runAfter l r (indicesBy i)) (sym (o .label v b)) (sym (o .run v b))
+        ap (λ s. runAt s v) model ∙ run-after l r S (indicesBy i) v (omega (arith, b, a .all, known .sized .runs))
+        ∙ ap₂ (runAfter l r (indicesBy i)) (sym (label-is v b)) (sym (run-is v b))
 
-    model-label : (v : ℕ) → v < length (j .variables) → labelAt (stateAfter j (suc k)) v ≡ merged l r (getD labels v 0)
+    model-label : (v : ℕ) → v < n → labelAt (stateAfter j (suc k)) v ≡ merged l r (getD labels v 0)
     model-label v b =
-        ap (λ s. labelAt s v) model ∙ label-after l r S (indicesBy i) v (omega (arith, known .sized .labels)) ∙ ap (merged l r) (sym (o .label v b))
+        ap (λ s. labelAt s v) model ∙ label-after l r S (indicesBy i) v (omega (arith, b, a .all, known .sized .labels)) ∙ ap (merged l r) (sym (label-is v b))
 
-    pub reducible : Reducible runs labels l r i (length (j .variables))
-    reducible = record { before = family; after = λ v h. subst FamilyRun (model-run v h) (invariant j f (suc k) b .form v h) }
+    pub reducible : Reducible runs labels (getD labels (e .left) 0) (getD labels (e .right) 0) i n
+    reducible = record { before = family; after = λ v b. subst FamilyRun (model-run v b) (invariant j (a .lawful) (suc k) (a .below) .form v (within b)) }
 
-    pub follows-reduced : (labels′ : List ℕ) (runs′ : List Run) → Merges labels l r (length (j .variables)) labels′ → Reduces runs labels l r i (length (j .variables)) runs′ →
-        Follows j (suc k) labels′ runs′
-    follows-reduced labels′ runs′ m q = record { label = λ v b. m .at v b ∙ sym (model-label v b); run = λ v b. q .at v b ∙ sym (model-run v b) }
+    pub follows-reduced : (labels′ : List ℕ) (runs′ : List Run) → Merges labels (getD labels (e .left) 0) (getD labels (e .right) 0) n labels′ →
+        Reduces runs labels (getD labels (e .left) 0) (getD labels (e .right) 0) i n runs′ → Follows j (suc k) labels′ runs′
+    follows-reduced labels′ runs′ m q = record {
+      label = λ v b. let c : v < n = omega (arith, b, a .all) in m .at v c ∙ sym (model-label v c);
+      run = λ v b. let c : v < n = omega (arith, b, a .all) in q .at v c ∙ sym (model-run v c);
+    }
 
 -- ---- after all of them
 pub follows-end : (j : Job) → LawfulJob j → (labels : List ℕ) (runs : List Run) → Follows j (length (j .equations)) labels runs → (i : ℕ) → i < length (j .variables) →

@@ -20,8 +20,8 @@ use Rattle.jobs.specs.Bounds.{withBounds, BoundedBy}
 use Rattle.solver.specs.VariableArrays.{Begins}
 use Rattle.solver.specs.Steps.{keptBy}
 use Rattle.solver.proofs.LawfulRows.{Sizes, n-most, row-asked, left-below, right-below}
-use Rattle.solver.proofs.CodeFollowsModel.{Follows}
-use Rattle.solver.proofs.FollowsWithBounds.{At, follows-start, follows-end, limits, left-family, right-family, labelled, left-label, right-label, keeps, follows-same, reducible, follows-reduced}
+use Rattle.solver.proofs.CodeFollowsModel.{Follows, At, limits, left-family, right-family, labelled, left-label, right-label, keeps, follows-same, reducible, follows-reduced}
+use Rattle.solver.proofs.FollowsWithBounds.{follows-start, follows-end, at-row}
 use Rattle.solver.proofs.equations.families.Statement.{statement}
 use Rattle.solver.proofs.equations.families.Tie as tie
 
@@ -89,19 +89,13 @@ module _ (c : tie.After-read Inv-loop μ-loop) where
   right-small : e .right < 256
   right-small = omega (arith, right-below (sizes (s .pre)) k k-below e (c .read .ensures), n-most (sizes (s .pre)))
 
-  -- for the bounds that came in
-  at : At (s .args .job .now) (s .args .n) (s .args .m) (s .args .bounds) k labels runs e
-  at = record {
-    sizes = sizes (s .pre);
-    bounded = s .pre .1 .1 .1;
-    below = k-below;
-    follows = c .before .before .loop .inv .1 .1 .1 .follows (s .args .bounds) (s .pre .1 .1 .1) (c .before .before .before .start .ensures);
-    row = c .read .ensures;
-  }
+  -- for any bounds with which the runs begin
+  at-any : (b : List Bounds) → BoundedBy b (s .args .n) → Begins b (s .args .n) (c .before .before .before .start .result) → At (withBounds (jobOf (s .args .job .now)) b) (s .args .n) k labels runs e
+  at-any b o h = at-row (sizes (s .pre)) b o k-below (c .before .before .loop .inv .1 .1 .1 .follows b o h) (c .read .ensures)
 
-  -- and for any others with which the runs begin
-  at-any : (b : List Bounds) → BoundedBy b (s .args .n) → Begins b (s .args .n) (c .before .before .before .start .result) → At (s .args .job .now) (s .args .n) (s .args .m) b k labels runs e
-  at-any b o h = record { sizes = sizes (s .pre); bounded = o; below = k-below; follows = c .before .before .loop .inv .1 .1 .1 .follows b o h; row = c .read .ensures }
+  -- and for those that came in
+  at : At (withBounds (jobOf (s .args .job .now)) (s .args .bounds)) (s .args .n) k labels runs e
+  at = at-any (s .args .bounds) (s .pre .1 .1 .1) (c .before .before .before .start .ensures)
 
 mul-l : tie.Need-mul-l Inv-loop μ-loop
 mul-l c = let h : c .read .result .left < 256 = left-small c in record { fits = omega (arith, h) }
@@ -156,10 +150,10 @@ keep-requires c κs =
     let v = c .before .before .before in
     let a = at (row v) in
     let i = c .before .kept .given .0 .0 in
-    (n-most (a .sizes), (left-label a, (labelled a, reducible a i (kept-is v (At-indices i) (c .before .kept .given .1)))))
+    (n-most (sizes (s (row v) .pre)), (left-label a, (labelled a, reducible a i (kept-is v (At-indices i) (c .before .kept .given .1)))))
 
 joined-requires : tie.Need-joined-requires Inv-loop μ-loop
-joined-requires c κs = let a = at (row (c .before .before .before .before)) in (n-most (a .sizes), (left-label a, (right-label a, labelled a)))
+joined-requires c κs = let v = row (c .before .before .before .before) in let a = at v in (n-most (sizes (s v .pre)), (left-label a, (right-label a, labelled a)))
 
 add-k : tie.Need-add-k Inv-loop μ-loop
 add-k c = omega arith
