@@ -1,5 +1,5 @@
--- From components to the whole job: the objective is the sum of the components' objectives, the best of each component put together is the
--- best of the job, and so is what the choice in each component's family gives.
+-- From components to the whole job: the objective is the sum of the components' objectives, the best of each component put together
+-- is the best of the job, and so is what the choice in each component's family gives.
 use mathlib.Core.Path.{_≡_, refl, sym, _∙_, ap, ap₂, subst}
 use mathlib.Core.Logic.{_⊎_, inl, inr, _↔_, _≢_, Iff·trans}
 use Prim.Native.Nat.{ℕ, _<_}

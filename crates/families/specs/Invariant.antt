@@ -31,7 +31,7 @@ pub record OnFamily (j : Job) (m : ℕ) (run : ℕ → Run) (g : ℕ) (x : List 
   pub is : IsMember j m run g k x
   pub only : (k′ : ℕ) → IsMember j m run g k′ x → k′ ≡ k
 
--- components: each variable is labelled with the lowest variable that the equations join to it.
+-- labels: each variable is labelled with the lowest variable that the equations join to it.
 -- family: the numbers that fit are those of the family, each once.
 -- The form: many is the same in all of a component; with two or more the lowest variable rises and no step is 0, with one every
 -- step is 0, and the empty family is 0, 0, 0 (`FamilyRun`).

@@ -22,7 +22,7 @@ use Rattle.jobs.specs.Job.{Job, form, variable, equation}
 use Rattle.jobs.specs.Component.{merged}
 
 -- ---- the state, while equations are taken in
--- components: of each variable, the lowest variable of its component so far.
+-- labels: of each variable, the lowest variable of its component so far.
 -- runs: of each variable, its numbers in the family of its component so far. At k its number is first + step·k, for all k below
 -- many; k and many are the component's, so that all its variables move together. A step may be negative; that of the component's
 -- lowest variable is not.

@@ -1,6 +1,6 @@
--- The planner's last steps as functions on lists: the choice in each component and the objective, from what is known of each variable, and
--- so the model's findings. Like the model of the families they compute, and nothing here has to be believed: proofs/ModelFindings.antt
--- shows that they give `verdict` and `sheet`.
+-- The planner's last steps as functions on lists: the choice in each component and the objective, from what is known of each
+-- variable, and so the model's findings. Like the model of the families they compute, and nothing here has to be believed:
+-- proofs/ModelFindings.antt shows that they give `verdict` and `sheet`.
 use mathlib.Core.Option.{Option}
 use mathlib.Core.List.{List}
 use Prim.Native.Nat.{ℕ}
@@ -31,7 +31,7 @@ unfoldable pub componentBy : (ℕ → ℕ) → ℕ → ℕ → ℕ
 unfolding keep leadsBy
 componentBy g n i = length (keep (λ l. ltb l (g i)) (leadsBy g n))
 
--- the lowest variable of the first component whose family is empty, where r gives the run of each variable in the family of its component
+-- the lowest variable of the first component whose family is empty, where r gives each variable's run in its component's family
 unfoldable pub emptyBy : ℕ → (ℕ → ℕ) → (ℕ → Run) → Option ℕ
 unfolding firstOf leadsBy
 emptyBy n g r = firstOf (λ l. equal? (r l .many) 0) (leadsBy g n)

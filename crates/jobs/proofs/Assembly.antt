@@ -1,5 +1,5 @@
--- From components to the whole job and back: a job has a solution exactly when each of its components has one; and what the search for
--- the first component without a solution finds.
+-- From components to the whole job and back: a job has a solution exactly when each of its components has one; and what the search
+-- for the first component without a solution finds.
 use mathlib.Core.Path.{_≡_, refl, sym, _∙_, ap, ap₂}
 use mathlib.Core.Logic.{_↔_, _≢_, Iff·trans}
 use mathlib.Core.Bool.{cond}

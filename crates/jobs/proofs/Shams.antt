@@ -1,5 +1,5 @@
 -- Document 01, "Wrong plans on the frame": the sham planners, nearest to passing first, and of each that it breaks the demand that
--- is named beside it; and three more that break demand 2: components numbered from 1, two components with one number, and a refusal for
+-- is named beside it; and three more that break demand 2: components numbered from 1, two with one number, and a refusal for
 -- everybody. Where a theorem is about one job, that job alone refuses the sham.
 use mathlib.Core.Path.{_≡_, refl, sym, _∙_, ap}
 use mathlib.Core.Logic.{_≢_, ⊎-elim}

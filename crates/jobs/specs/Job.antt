@@ -1,5 +1,5 @@
 -- Document 01, "The job": what the bytes of a job say. Every list of bytes says something; whether it is a job that may be
--- planned is a matter of the table (Table.antt).
+-- planned is a matter of the table (ReasonTable.antt).
 use mathlib.Core.Path.{_≡_}
 use mathlib.Core.List.{List}
 use Prim.Native.Nat.{ℕ, _+_, _*_, _≤_}

@@ -56,7 +56,7 @@ abbrev pub common : Interval → Interval → Interval
 common i j = record { low = greater (i .low) (j .low); high = smaller (i .high) (j .high) }
 
 -- ---- a run of one number or more: a class from a lowest to a highest number
--- the step, and 1 where there is a single number
+-- the step, and 1 where there is a single number: for that any modulus will do, and it needs no case of its own
 abbrev pub strideOf : ℤ → ℕ → ℤ
 strideOf step zero = step
 strideOf step (suc zero) = pos 1

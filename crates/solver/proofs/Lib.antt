@@ -2,7 +2,7 @@
 
 -- two labels that become one
 pub mod MergedLabels
--- whether an equation joins two sets
+-- whether an equation joins two sets: the program's test tells just that (`joins-told`)
 pub mod JoinTest
 -- the lowest variables of the components, one after the other
 pub mod LowestVariables
@@ -10,13 +10,13 @@ pub mod LowestVariables
 pub mod In64Bits
 -- how large the numbers are through which an equation between two families goes
 pub mod JoinWidths
--- the arrays follow the model
+-- the arrays follow the model, equation by equation (`Follows`, `follows-reduced`), to the families (`follows-end`)
 pub mod CodeFollowsModel
--- a job with its own bounds
+-- with the bounds in its rows a job is the job itself: `own-bounds`
 pub mod OwnBounds
 -- the rows of a lawful job
 pub mod LawfulRows
 -- the arrays follow the model, for bytes and bounds
 pub mod FollowsWithBounds
--- a job that the check accepts
+-- a job that the check accepts is lawful (`accepts`), and what is read of it is its own (`counted`, `bounded`)
 pub mod AcceptedJob

@@ -1,4 +1,4 @@
--- The lowest variables of the components, as a pass over the variables meets them; g gives the lowest variable of each one's component.
+-- The lowest variables of the components, as a pass over the variables meets them; g gives the label of each variable.
 use mathlib.Core.Path.{_≡_, refl, _∙_, ap, subst}
 use mathlib.Core.Logic.{_≢_}
 use mathlib.Core.Bool.{Bool, true, false, cond}

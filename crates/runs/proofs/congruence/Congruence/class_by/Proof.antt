@@ -1,5 +1,5 @@
--- `Congruence::class_by` meets its contract: CongruenceSolutions.antt has the facts of numbers, and what is here hands it the result of
--- each call.
+-- `Congruence::class_by` meets its contract: CongruenceSolutions.antt has the facts of numbers, and what is here hands it the result
+-- of each call.
 use mathlib.Core.Path.{_≡_}
 use mir.Syntax.{w64}
 use mir.Val.{SFits}
