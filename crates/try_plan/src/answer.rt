@@ -43,10 +43,18 @@ pub(crate) fn refused(reason: u16, row: u16) -> Answer {
 pub(crate) fn of(job: &[u8], area: &mut [u8]) -> Answer {
     let outcome = planner::plan(job, area);
     match outcome {
-        Outcome::Planned(worth) => planned(build::bits(worth)),
+        Outcome::Planned(worth) => planned(residue(worth)),
         Outcome::NoFit(variable) => no_fit(variable),
         Outcome::Refused(reason) => refused(reason.number(), reason.row()),
     }
+}
+
+// In two's complement.
+fn residue(x: i64) -> u64 {
+    if x < 0 {
+        return std::num::wrapping_sub_u64(0, ints::size(x));
+    }
+    ints::size(x)
 }
 
 impl Answer {
@@ -54,43 +62,29 @@ impl Answer {
         self.kind == PLANNED
     }
 
-    pub(crate) fn equals(self, other: Answer) -> bool {
-        if self.kind != other.kind {
-            return false;
-        }
-        if self.value != other.value {
-            return false;
-        }
-        self.row == other.row
+    pub(crate) fn is_refused(self) -> bool {
+        self.kind == REFUSED
     }
 
+    pub(crate) fn equals(self, other: Answer) -> bool {
+        if self.kind == other.kind {
+            if self.value == other.value {
+                return self.row == other.row;
+            }
+        }
+        false
+    }
+
+    /// A worth below 0 is shown in two's complement.
     pub(crate) fn show(self) {
         let kind = self.kind;
         match kind {
-            PLANNED => {
-                print::text(b"planned ");
-                show_bits(self.value);
-            }
-            NO_FIT => {
-                print::text(b"no fit at count ");
-                print::count(self.value);
-            }
-            _ => {
-                print::text(b"refused ");
-                print::count(self.value);
-                print::text(b" row ");
-                print::count(self.row as u64);
-            }
+            PLANNED => print::text(b"planned "),
+            NO_FIT => print::text(b"no fit at count "),
+            _ => print::text(b"refused "),
         }
-    }
-}
-
-// A number in two's complement.
-fn show_bits(x: u64) {
-    if x < 9223372036854775808 {
-        print::count(x);
-    } else {
-        print::text(b"-");
-        print::count(std::num::wrapping_sub_u64(0, x));
+        print::count(self.value);
+        print::text(b" row ");
+        print::count(self.row as u64);
     }
 }

@@ -1,83 +1,82 @@
 //! What kinds of jobs the pseudo-random ones are, and how many of each: it shows what is tried.
 
-use crate::search::Plan;
-use build::Buffer;
-use small::plain;
-use small::plain::Labels;
+use crate::format::Buffer;
+use crate::format::byte;
+use crate::plan::Five;
+use crate::plan::Plan;
+use crate::plan::groups_below;
+use crate::plan::item;
+use crate::search::bounded;
 
-/// For each kind how many are planned, and then how many have no fit.
+/// How many jobs of each kind are planned, and how many have no fit.
 pub struct Counts {
-    at: [u64; 12],
+    planned: [u64; 6],
+    no_fit: [u64; 6],
 }
 
 pub(crate) fn none() -> Counts {
-    Counts { at: [0; 12] }
+    Counts {
+        planned: [0; 6],
+        no_fit: [0; 6],
+    }
 }
 
 impl Counts {
     /// With one job more.
-    pub(crate) fn with(self, b: &Buffer, p: Plan) -> Counts {
+    pub(crate) fn with(self, b: &Buffer, p: Plan, planned: bool) -> Counts {
         let labels = p.labels;
-        let n = plain::variables(b);
-        let g = plain::groups(b, labels);
-        let planned = p.answer.is_planned();
-        let ties = p.best.many;
-        self.add(true, 0, planned)
-            .add(1 < g, 2, planned)
-            .add(has_untied(b, labels), 4, planned)
-            .add(n < plain::equations(b) + g, 6, planned)
-            .add(has_empty_bounds(b, labels), 8, planned)
-            .add(1 < ties, 10, planned)
+        let n = p.n;
+        let g = groups_below(labels, n);
+        let m = byte(b, 6);
+        self.add(planned, 0, true)
+            .add(planned, 1, 1 < g)
+            .add(planned, 2, is_untied(labels, n))
+            .add(planned, 3, (n as u32) < m as u32 + g as u32)
+            .add(planned, 4, is_crossed(b, n))
+            .add(planned, 5, 1 < p.best)
     }
 
-    // One more of a kind, if the job is of that kind.
-    fn add(self, is: bool, kind: u8, planned: bool) -> Counts {
-        if !is {
-            return self;
-        }
-        if planned {
-            return self.add_at(kind as usize);
-        }
-        self.add_at(kind as usize + 1)
-    }
-
-    fn add_at(self, at: usize) -> Counts {
+    // One more, if the job is of that kind.
+    fn add(self, planned: bool, kind: usize, is: bool) -> Counts {
         let mut counts = self;
-        if at < 12 {
-            counts.at[at] = std::num::wrapping_add_u64(self.at[at], 1);
+        if is {
+            if kind < 6 {
+                if planned {
+                    counts.planned[kind] = std::num::wrapping_add_u64(self.planned[kind], 1);
+                } else {
+                    counts.no_fit[kind] = std::num::wrapping_add_u64(self.no_fit[kind], 1);
+                }
+            }
         }
         counts
     }
 
     pub(crate) fn report(self) {
-        self.line(b"all", 0);
-        self.line(b"several groups", 2);
-        self.line(b"an untied variable", 4);
-        self.line(b"a ring", 6);
-        self.line(b"a low above its high", 8);
-        self.line(b"several best", 10);
+        self.line(0, b"all");
+        self.line(1, b"several groups");
+        self.line(2, b"an untied variable");
+        self.line(3, b"a ring");
+        self.line(4, b"a low above its high");
+        self.line(5, b"several best");
     }
 
-    fn line(self, name: &[u8], kind: u8) {
-        print::text(name);
-        print::text(b": planned ");
-        print::count(self.get(kind as usize));
-        print::text(b" no fit ");
-        print::count(self.get(kind as usize + 1));
-        print::text(b"\n");
-    }
-
-    fn get(self, at: usize) -> u64 {
-        if at < 12 { self.at[at] } else { 0 }
+    fn line(self, kind: usize, name: &[u8]) {
+        if kind < 6 {
+            print::text(name);
+            print::text(b": planned ");
+            print::count(self.planned[kind]);
+            print::text(b" no fit ");
+            print::count(self.no_fit[kind]);
+            print::text(b"\n");
+        }
     }
 }
 
 // Is a variable a group of its own, beside others?
-fn has_untied(b: &Buffer, labels: Labels) -> bool {
-    let n = plain::variables(b);
-    let mut i: usize = 0;
+fn is_untied(labels: Five, n: u8) -> bool {
+    let mut i: u8 = 0;
     while i < n {
-        if members(b, labels, plain::label(labels, i)) == 1 {
+        if members(labels, n, item(labels, i)) == 1 {
             return 1 < n;
         }
         i += 1;
@@ -86,24 +85,23 @@ fn has_untied(b: &Buffer, labels: Labels) -> bool {
 }
 
 // How many variables a group has.
-fn members(b: &Buffer, labels: Labels, g: u8) -> u64 {
-    let n = plain::variables(b);
-    let mut many: u64 = 0;
-    let mut i: usize = 0;
+fn members(labels: Five, n: u8, g: u8) -> u8 {
+    let mut many: u8 = 0;
+    let mut i: u8 = 0;
     while i < n {
-        if plain::label(labels, i) == g {
-            many = std::num::wrapping_add_u64(many, 1);
+        if item(labels, i) == g {
+            many = std::num::wrapping_add_u8(many, 1);
         }
         i += 1;
     }
     many
 }
 
-fn has_empty_bounds(b: &Buffer, labels: Labels) -> bool {
-    let n = plain::variables(b);
-    let mut i: usize = 0;
+// Is a low above its high?
+fn is_crossed(b: &Buffer, n: u8) -> bool {
+    let mut i: u8 = 0;
     while i < n {
-        if plain::width(b, labels, plain::label(labels, i), i) == 0 {
+        if bounded(b, i) == 0 {
             return true;
         }
         i += 1;

@@ -1,28 +1,41 @@
-//! Runs the planner. Jobs of document 01 are held to sheets that were worked out by hand; some thousands of pseudo-random ones to a plain
-//! search through all lists of numbers, each with an area just long enough, a longer one and one that is a byte too short. What is
-//! compared is the outcome, and every byte of the area and of those behind it. Each difference stands on a line of its own.
+//! Runs the planner. Jobs written as text are held to what was worked out by hand, or where they are small to a plain search through all
+//! lists of numbers, and so are some thousands of pseudo-random ones; each in an area that is just long enough, in a longer one, and in
+//! one that is a byte too short. What is compared is the outcome, and every byte of the area and of those behind it. A job that differs
+//! stands on a line above its family's.
 
+// the bytes of jobs and sheets
+mod format;
+// jobs written as text
+mod text;
 // what the planner answers
 mod answer;
-// sheets as document 01 lays them out
-mod sheet;
-// a job with an area
+// what is expected, and its sheet
+mod plan;
+// a job in three areas
 mod trial;
 // the plain search
 mod search;
-// the sheet that it finds
-mod rows;
-// jobs of document 01, by hand
+// what a line of text expects
+mod line;
+// 256 variables
+mod wide;
+// tables of jobs
+mod table;
+// jobs worked out by hand
+mod by_hand;
+// small jobs
 mod vectors;
-// what kinds of jobs there are
-mod kinds;
 // pseudo-random jobs
+mod random;
+// what kinds of jobs these are
+mod kinds;
+// all of them
 mod sweep;
 
 fn main() {
-    let mut job = [0u8; 23608];
-    let mut area = [0u8; 23608];
-    let mut expected = [0u8; 23608];
-    vectors::all(&mut job, &mut area, &mut expected);
-    sweep::all(&mut job, &mut area, &mut expected);
+    let mut job: format::Buffer = [0; 23608];
+    let mut sheet: format::Buffer = [0; 23608];
+    vectors::all(&mut job, &mut sheet);
+    by_hand::all(&mut job, &mut sheet);
+    sweep::all(&mut job, &mut sheet);
 }

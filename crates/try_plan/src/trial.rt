@@ -1,84 +1,83 @@
-//! A job with an area: the outcome, and every byte of the area and some behind it.
+//! A job in three areas: the outcome, and every byte of the area and some behind it.
 
 use crate::answer;
 use crate::answer::Answer;
-use crate::sheet;
-use crate::sheet::byte;
-use build::Buffer;
+use crate::format::Buffer;
+use crate::format::byte;
+use crate::format::store;
+use crate::plan::Expected;
 
-/// The job's number among its kind, its length, the area's length, and the start of the pattern in the area.
-pub struct Trial {
-    pub job: u64,
-    pub length: u32,
-    pub size: u16,
-    pub start: u8,
+/// The lengths of the job and of the area; how much of the area is written; and the answer.
+struct Trial {
+    length: u32,
+    size: u32,
+    written: u32,
+    expected: Answer,
 }
 
-pub(crate) fn of(job: u64, length: u32, size: u32, start: u8) -> Trial {
-    Trial {
-        job: job,
+/// Is the job in b planned as expected, where the sheet in e is? With an area that is just long enough, a longer one, and one that is a
+/// byte too short, which is reason 8, also where there is no fit, but after reasons 1 to 7. If not, the line says what differs.
+pub(crate) fn is_right(b: &Buffer, length: u32, e: &Buffer, x: Expected) -> bool {
+    let size = x.length % 65536;
+    let expected = x.answer;
+    let exact = Trial {
         length: length,
-        size: (size % 65536) as u16,
-        start: start,
+        size: size,
+        written: if expected.is_planned() { size } else { 0 },
+        expected: expected,
+    };
+    let mut area: Buffer = [0; 23608];
+    if !exact.is_right(b, e, &mut area) {
+        return false;
     }
+    if !exact.longer().is_right(b, e, &mut area) {
+        return false;
+    }
+    exact.shorter().is_right(b, e, &mut area)
 }
 
 impl Trial {
-    /// The bytes that are looked at.
-    pub(crate) fn end(self) -> u32 {
-        self.size as u32 + 16
+    fn longer(self) -> Trial {
+        let mut t = self;
+        t.size = std::num::wrapping_add_u32(self.size, 9);
+        t
     }
 
-    /// Does the planner answer so for the job in b, and leave in the area what is expected? If not, a line says what differs.
-    pub(crate) fn is_right(
-        self,
-        answer: Answer,
-        b: &Buffer,
-        area: &mut Buffer,
-        expected: &Buffer,
-    ) -> bool {
-        sheet::fill(area, self.end(), self.start);
+    fn shorter(self) -> Trial {
+        let answer = self.expected;
+        let short = Trial {
+            length: self.length,
+            size: std::num::wrapping_sub_u32(self.size, 1),
+            written: 0,
+            expected: answer::refused(8, 0),
+        };
+        if answer.is_refused() { self } else { short }
+    }
+
+    fn is_right(self, b: &Buffer, e: &Buffer, area: &mut Buffer) -> bool {
+        let end = self.size % 65536 + 16;
+        fill(area, end);
+        let expected = self.expected;
         let given = ask(b, self.length, area, self.size);
-        let at = first_difference(area, expected, self.end());
-        if !given.equals(answer) {
-            self.show_answers(given, answer);
+        if !given.equals(expected) {
+            print::text(b" ");
+            given.show();
+            print::text(b" and not ");
+            expected.show();
             return false;
         }
-        if at < self.end() {
-            self.show_byte(expected, at, answer.is_planned());
+        let at = first_difference(area, e, self.written, end);
+        if at < end {
+            print::text(b" byte ");
+            print::count(at as u64);
             return false;
         }
         true
     }
-
-    fn show_answers(self, given: Answer, answer: Answer) {
-        self.show();
-        given.show();
-        print::text(b" and not ");
-        answer.show();
-        print::text(b"\n");
-    }
-
-    fn show_byte(self, expected: &Buffer, at: u32, planned: bool) {
-        self.show();
-        print::text(b"byte ");
-        print::count(at as u64);
-        print::text(b", ");
-        sheet::show(expected, at, planned);
-        print::text(b"\n");
-    }
-
-    fn show(self) {
-        print::text(b"job ");
-        print::count(self.job);
-        print::text(b" area ");
-        print::count(self.size as u64);
-        print::text(b" differs: ");
-    }
 }
 
 // The planner's answer for the first bytes of the job's buffer and of the area's.
-fn ask(b: &[u8], length: u32, area: &mut [u8], size: u16) -> Answer {
+fn ask(b: &[u8], length: u32, area: &mut [u8], size: u32) -> Answer {
     let end = length as usize;
     let stop = size as usize;
     if b.len() < end {
@@ -90,13 +89,32 @@ fn ask(b: &[u8], length: u32, area: &mut [u8], size: u16) -> Answer {
     answer::of(&b[0..end], &mut area[0..stop])
 }
 
-// The first of these bytes that is not the same in both, or their end.
-fn first_difference(x: &Buffer, y: &Buffer, end: u32) -> u32 {
+// What stands in an area before.
+fn pattern(i: u32) -> u64 {
+    7 * i as u64 + 13
+}
+
+fn fill(area: &mut Buffer, end: u32) {
     let mut i: u32 = 0;
     while i < end {
-        let at = i as usize;
-        if byte(x, at) != byte(y, at) {
-            return i;
+        store(area, i as usize, pattern(i));
+        i += 1;
+    }
+}
+
+// The first byte of an area that is not as in the sheet, or where nothing is written as before; or the end.
+fn first_difference(area: &Buffer, e: &Buffer, written: u32, end: u32) -> u32 {
+    let mut i: u32 = 0;
+    while i < end {
+        let x = byte(area, i as usize);
+        if i < written {
+            if x != byte(e, i as usize) {
+                return i;
+            }
+        } else {
+            if x as u64 != pattern(i) % 256 {
+                return i;
+            }
         }
         i += 1;
     }

@@ -4,47 +4,8 @@ use borrow.Author.Needs.{needs}
 use Rattle.try_plan.proofs.kinds.members.Statement.{statement}
 use Rattle.try_plan.proofs.kinds.members.Tie as tie
 
-abbrev Inv-loop : tie.InvT-loop
-Inv-loop b labels g n many₀ i₀ many i = i ≤ n
-
-abbrev μ-loop : tie.MeasureT-loop
-μ-loop b labels g n many₀ i₀ many i = n - i
-
-variables-requires : tie.Need-variables-requires Inv-loop μ-loop
-variables-requires c κs = search needs
-
-loop-holds : tie.Need-loop-holds Inv-loop μ-loop
-loop-holds c = search needs
-
-label-requires : tie.Need-label-requires Inv-loop μ-loop
-label-requires c κs = search needs
-
-wrapping-add-u64-requires : tie.Need-wrapping-add-u64-requires Inv-loop μ-loop
-wrapping-add-u64-requires c κs = search needs
-
-add-i : tie.Need-add-i Inv-loop μ-loop
-add-i c = search needs
-
-loop-less : tie.Need-loop-less Inv-loop μ-loop
-loop-less c = search needs
-
-loop-again : tie.Need-loop-again Inv-loop μ-loop
-loop-again c = search needs
-
-returns : tie.Need-returns Inv-loop μ-loop
-returns c = search needs
-
 pub members-spec : {M : Type 1} → statement M
 members-spec =
     tie.close
-    (tie.spec
-    Inv-loop
-    μ-loop
-    variables-requires
-    loop-holds
-    label-requires
-    wrapping-add-u64-requires
-    add-i
-    loop-less
-    loop-again
-    returns)
+    (tie.spec (λ labels n g many₀ i₀ many i. i ≤ n) (λ labels n g many₀ i₀ many i. n - i) (search needs)
+    (search needs) (search needs) (search needs) (search needs) (search needs) (search needs))

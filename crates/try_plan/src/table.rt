@@ -1,0 +1,162 @@
+//! Tables of jobs, as text: a family's name, then its jobs, one to a line. Lines that begin with # are comments.
+
+use crate::answer;
+use crate::format;
+use crate::format::Buffer;
+use crate::format::Row;
+use crate::line;
+use crate::plan::Expected;
+use crate::search;
+use crate::text;
+use crate::text::Line;
+use crate::trial;
+use crate::wide;
+
+/// How many jobs, and how many of them came out other than expected.
+pub struct Tally {
+    pub jobs: u64,
+    pub differ: u64,
+}
+
+pub(crate) fn nothing() -> Tally {
+    Tally { jobs: 0, differ: 0 }
+}
+
+impl Tally {
+    /// With one job more. If it differs, its place among the family's is printed.
+    pub(crate) fn judge(self, right: bool) -> Tally {
+        if !right {
+            print::text(b" differs at ");
+            print::count(self.jobs);
+            print::text(b"\n");
+        }
+        Tally {
+            jobs: std::num::wrapping_add_u64(self.jobs, 1),
+            differ: std::num::wrapping_add_u64(self.differ, if right { 0 } else { 1 }),
+        }
+    }
+
+    // The rest of a family's line, if it has any jobs.
+    fn report(self) {
+        if 0 < self.jobs {
+            print::text(b" jobs ");
+            print::count(self.jobs);
+            print::text(b" differ ");
+            print::count(self.differ);
+            print::text(b"\n");
+        }
+    }
+}
+
+pub(crate) fn run(b: &mut Buffer, e: &mut Buffer, lines: &[u8]) {
+    let mut t = nothing();
+    let mut read = text::start();
+    let mut from: usize = 0;
+    let mut i: usize = 0;
+    while i < lines.len() {
+        let x = lines[i];
+        let next = i + 1;
+        read = read.next(x);
+        if x == b'\n' {
+            t = line(t, b, e, &lines[0..i], from, read);
+            read = text::start();
+            from = next;
+        }
+        i = next;
+    }
+    t.report();
+}
+
+// The line from a place to the end of the text.
+fn line(t: Tally, b: &mut Buffer, e: &mut Buffer, lines: &[u8], from: usize, read: Line) -> Tally {
+    if lines.len() <= from {
+        return t;
+    }
+    if lines[from] == b'#' {
+        return t;
+    }
+    if read.has(b':') {
+        return job(t, b, e, read);
+    }
+    t.report();
+    print::text(&lines[from..]);
+    nothing()
+}
+
+// One number behind the bar: so many forms of the last row. Two: a reason and a row.
+fn job(t: Tally, b: &mut Buffer, e: &mut Buffer, read: Line) -> Tally {
+    let length = if read.has(b'*') {
+        wide::write(b, read)
+    } else {
+        line::write(b, read)
+    };
+    let many = std::num::wrapping_sub_usize(read.before(b'>'), read.before(b'|'));
+    if many == 1 {
+        return forms(t, b, e, read, length);
+    }
+    let x = if many == 2 {
+        refused(read)
+    } else {
+        expect(b, e, read)
+    };
+    t.judge(trial::is_right(b, length, e, x))
+}
+
+fn refused(read: Line) -> Expected {
+    let reason = (read.after(b'|', 0) % 65536) as u16;
+    let row = (read.after(b'|', 1) % 65536) as u16;
+    Expected {
+        answer: answer::refused(reason, row),
+        length: 0,
+    }
+}
+
+// Without a bar, what the plain search gives.
+fn expect(b: &Buffer, e: &mut Buffer, read: Line) -> Expected {
+    if read.has(b'*') {
+        return wide::expect(e, read);
+    }
+    if read.has(b'|') {
+        return line::plan(read).write(e);
+    }
+    search::plan(b).write(e)
+}
+
+// ---- one row in many forms
+
+// The job of a line, with so many forms in the place of its last row, against the plain search.
+fn forms(t: Tally, b: &mut Buffer, e: &mut Buffer, read: Line, length: u32) -> Tally {
+    let n = line::variable_count(read);
+    let k = std::num::wrapping_sub_u16(line::equation_count(read), 1);
+    let row = line::row(read, k);
+    let end = read.after(b'|', 0);
+    let mut t = t;
+    let mut code: u64 = 0;
+    while code < end {
+        format::equation(b, n, k, form(code, row));
+        let x = search::plan(b).write(e);
+        t = t.judge(trial::is_right(b, length, e, x));
+        code += 1;
+    }
+    t
+}
+
+// With either variable on the left, a and b of both signs and 1 to 3 in size, and c from 0 out to both sides, 72 forms for each.
+fn form(code: u64, row: Row) -> Row {
+    let swap = code % 2 == 1;
+    Row {
+        a: signed(code / 2, 1 + code / 8 % 3),
+        left: if swap { row.right } else { row.left },
+        b: signed(code / 4, 1 + code / 24 % 3),
+        right: if swap { row.left } else { row.right },
+        c: signed(code / 72, (code / 72 + 1) / 2),
+    }
+}
+
+fn signed(odd: u64, size: u64) -> u64 {
+    if odd % 2 == 0 {
+        size
+    } else {
+        std::num::wrapping_sub_u64(0, size)
+    }
+}
