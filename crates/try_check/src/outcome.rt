@@ -27,13 +27,6 @@ pub(crate) fn of(job: &[u8]) -> Outcome {
 }
 
 impl Outcome {
-    pub(crate) fn equals(self, other: Outcome) -> bool {
-        if self.reason == other.reason {
-            return self.row == other.row;
-        }
-        false
-    }
-
     pub(crate) fn show(self) {
         if self.reason == 0 {
             print::text(b"accepted");
