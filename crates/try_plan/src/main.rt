@@ -1,41 +1,29 @@
-//! Runs the planner. Jobs written as text are held to what was worked out by hand, or where they are small to a plain search through all
-//! lists of numbers, and so are some thousands of pseudo-random ones; each in an area that is just long enough, in a longer one, and in
-//! one that is a byte too short. What is compared is the outcome, and every byte of the area and of those behind it. A job that differs
-//! stands on a line above its family's.
+//! Runs the planner. The jobs on standard input are held to what was worked out by hand, or where they are small to a plain search
+//! through all lists of numbers; and so are some thousands of pseudo-random ones. Each is planned in an area that is just long enough,
+//! in a longer one, and in one that is a byte too short. What is compared is the outcome, and every byte of the area and of those behind
+//! it. A job that differs is named in its family's line.
 
 // the bytes of jobs and sheets
 mod format;
 // jobs written as text
 mod text;
+// the job of a line, and what it expects
+mod line;
+// jobs of 256 variables
+mod wide;
 // what the planner answers
 mod answer;
-// what is expected, and its sheet
-mod plan;
 // a job in three areas
 mod trial;
 // the plain search
 mod search;
-// what a line of text expects
-mod line;
-// 256 variables
-mod wide;
-// tables of jobs
-mod table;
-// jobs worked out by hand
-mod by_hand;
-// small jobs
-mod vectors;
 // pseudo-random jobs
 mod random;
-// what kinds of jobs these are
-mod kinds;
-// all of them
-mod sweep;
+// tables of jobs
+mod table;
 
 fn main() {
-    let mut job: format::Buffer = [0; 23608];
-    let mut sheet: format::Buffer = [0; 23608];
-    vectors::all(&mut job, &mut sheet);
-    by_hand::all(&mut job, &mut sheet);
-    sweep::all(&mut job, &mut sheet);
+    let mut b: format::Buffer = [0; 32896];
+    table::all(&mut b);
+    table::random(&mut b);
 }

@@ -2,12 +2,13 @@
 //! variables and 32,768 lists, and each of its numbers is within -128..=127, so that its lowest byte says all of it.
 
 ghost use Prim.Native.Nat.{_≤_};
+use crate::answer;
+use crate::answer::Answer;
+use crate::answer::Expected;
+use crate::format;
 use crate::format::Buffer;
 use crate::format::Entry;
 use crate::format::byte;
-use crate::plan::Five;
-use crate::plan::Plan;
-use crate::plan::item;
 
 // ---- numbers of one byte, in two's complement
 
@@ -47,18 +48,18 @@ fn is_less(x: u64, y: u64) -> bool {
 
 // ---- groups
 
-// Where row k of the equations begins.
-fn row(b: &Buffer, k: u8) -> usize
-    ensures { λ r. ⌜ r ≤ 10000 ⌝ }
-{
-    24 + 12 * byte(b, 4) as usize + 20 * k as usize
+/// For each variable the lowest one that is joined to it.
+pub type Labels = [u8; 5];
+
+pub(crate) fn label(labels: Labels, i: u8) -> u8 {
+    if i < 5 { labels[i as usize] } else { 255 }
 }
 
-// Each variable begins with its own number. Along an equation the lower number is taken over, for so many rounds that it can come from
-// any variable to any other.
-fn labels(b: &Buffer) -> Five {
+/// Each variable begins with its own number. Along an equation the lower number is taken over, for so many rounds that it can come from
+/// any variable to any other.
+pub(crate) fn labels(b: &Buffer) -> Labels {
     let m = byte(b, 6);
-    let mut labels: Five = [0, 1, 2, 3, 4];
+    let mut labels: Labels = [0, 1, 2, 3, 4];
     let mut i: u8 = 0;
     while i < 30 {
         if i % 6 < m {
@@ -70,45 +71,76 @@ fn labels(b: &Buffer) -> Five {
     labels
 }
 
-fn joined(b: &Buffer, k: u8, labels: Five) -> Five {
+fn joined(b: &Buffer, k: u8, labels: Labels) -> Labels {
     let at = row(b, k);
     let left = byte(b, at);
     let right = byte(b, at + 2);
-    let x = item(labels, left);
-    let y = item(labels, right);
+    let x = label(labels, left);
+    let y = label(labels, right);
     let lower = if x < y { x } else { y };
-    set(set(labels, left, lower), right, lower)
-}
-
-fn set(a: Five, i: u8, x: u8) -> Five {
-    let mut r = a;
-    if i < 5 {
-        r[i as usize] = x;
+    let mut next = labels;
+    if left < 5 {
+        next[left as usize] = lower;
     }
-    r
+    if right < 5 {
+        next[right as usize] = lower;
+    }
+    next
 }
 
-// ---- the lists
+// Where row k of the equations begins.
+fn row(b: &Buffer, k: u8) -> usize
+    ensures { λ r. ⌜ r ≤ 10000 ⌝ }
+{
+    24 + 12 * byte(b, 4) as usize + 20 * k as usize
+}
 
-/// A group of variables, and the numbers of all others.
+/// How many groups have their lowest variable below i.
+pub(crate) fn groups_below(labels: Labels, end: u8) -> u16 {
+    let mut g: u16 = 0;
+    let mut i: u8 = 0;
+    while i < end {
+        if label(labels, i) == i {
+            g = std::num::wrapping_add_u16(g, 1);
+        }
+        i += 1;
+    }
+    g
+}
+
+// ---- the lists: in five bytes a number for each variable, 128 more than it is, and that of variable 0 in the highest. So the way from one
+// list to another is the difference of the two.
+
+fn number(list: u64, i: u8) -> u8 {
+    let rest = match i {
+        0 => list / 4294967296,
+        1 => list / 16777216,
+        2 => list / 65536,
+        3 => list / 256,
+        _ => list,
+    };
+    std::num::wrapping_sub_u8((rest % 256) as u8, 128)
+}
+
+/// A group of variables, and a list that has the numbers of all others.
 struct Part {
-    labels: Five,
+    labels: Labels,
     group: u8,
-    others: Five,
+    others: u64,
 }
 
 // Is variable i in the group?
 fn has(b: &Buffer, p: Part, i: u8) -> bool {
     let labels = p.labels;
     if i < byte(b, 4) {
-        item(labels, i) == p.group
+        label(labels, i) == p.group
     } else {
         false
     }
 }
 
 /// How many numbers a variable has within its bounds.
-pub(crate) fn bounded(b: &Buffer, i: u8) -> u64 {
+pub(crate) fn width(b: &Buffer, i: u8) -> u64 {
     let low = byte(b, 24 + 12 * i as usize);
     let high = byte(b, 28 + 12 * i as usize);
     if is_less(wide(high), wide(low)) {
@@ -117,45 +149,59 @@ pub(crate) fn bounded(b: &Buffer, i: u8) -> u64 {
     std::num::wrapping_sub_u8(high, low) as u64 + 1
 }
 
-/// A list; or the codes are past the last one.
-struct List {
-    numbers: Five,
-    past: bool,
+/// The list of a code, which has a digit for each variable, the last one's lowest: how far it stands above its low; so far as it is
+/// read, and what is left of the code.
+struct Code {
+    list: u64,
+    rest: u64,
 }
 
-// A code has a digit for each variable, the last one's lowest: how far it stands above its low.
-fn decoded(b: &Buffer, p: Part, code: u64) -> List {
-    let mut numbers = p.others;
-    let mut rest = code;
+// No code is as great.
+const PAST: u64 = 65536;
+
+fn decoded(b: &Buffer, p: Part, code: u64) -> Code {
+    let mut c = Code {
+        list: 0,
+        rest: code,
+    };
     let mut i: u8 = 5;
     while 0 < i {
         i -= 1;
-        if has(b, p, i) {
-            let w = bounded(b, i);
-            if w == 0 {
-                return List {
-                    numbers: numbers,
-                    past: true,
-                };
-            }
-            let low = byte(b, 24 + 12 * i as usize);
-            let next = set(numbers, i, ((low as u64 + rest % w % 256) % 256) as u8);
-            numbers = next;
-            rest = rest / w;
-        }
+        c = c.digit(b, p, i);
     }
-    List {
-        numbers: numbers,
-        past: 0 < rest,
+    c
+}
+
+impl Code {
+    fn digit(self, b: &Buffer, p: Part, i: u8) -> Code {
+        if !has(b, p, i) {
+            return self.with(number(p.others, i), self.rest);
+        }
+        let w = width(b, i);
+        if w == 0 {
+            return self.with(0, PAST);
+        }
+        let low = byte(b, 24 + 12 * i as usize);
+        self.with(
+            std::num::wrapping_add_u8(low, (self.rest % w % 256) as u8),
+            self.rest / w,
+        )
+    }
+
+    fn with(self, x: u8, rest: u64) -> Code {
+        Code {
+            list: self.list / 256 + 4294967296 * std::num::wrapping_add_u8(x, 128) as u64,
+            rest: rest,
+        }
     }
 }
 
 // Does every equation of the group hold?
-fn hold(b: &Buffer, p: Part, x: Five) -> bool {
+fn hold(b: &Buffer, p: Part, list: u64) -> bool {
     let m = byte(b, 6);
     let mut k: u8 = 0;
     while k < m {
-        if !holds(b, k, p, x) {
+        if !holds(b, k, p, list) {
             return false;
         }
         k += 1;
@@ -163,80 +209,70 @@ fn hold(b: &Buffer, p: Part, x: Five) -> bool {
     true
 }
 
-fn holds(b: &Buffer, k: u8, p: Part, x: Five) -> bool {
-    let labels = p.labels;
+fn holds(b: &Buffer, k: u8, p: Part, list: u64) -> bool {
     let at = row(b, k);
     let left = byte(b, at);
-    if item(labels, left) != p.group {
+    if !has(b, p, left) {
         return true;
     }
-    let y = times(byte(b, at + 4), item(x, left));
-    let z = times(byte(b, at + 8), item(x, byte(b, at + 2)));
-    std::num::wrapping_add_u64(y, z) == wide(byte(b, at + 12))
+    let x = times(byte(b, at + 4), number(list, left));
+    let y = times(byte(b, at + 8), number(list, byte(b, at + 2)));
+    std::num::wrapping_add_u64(x, y) == wide(byte(b, at + 12))
 }
 
 // The sum of weight times number over a group.
-fn worth(b: &Buffer, p: Part, x: Five) -> u64 {
-    let labels = p.labels;
-    let n = byte(b, 4);
+fn worth(b: &Buffer, p: Part, list: u64) -> u64 {
     let mut sum: u64 = 0;
     let mut i: u8 = 0;
-    while i < n {
-        if item(labels, i) == p.group {
+    while i < 5 {
+        if has(b, p, i) {
             let weight = byte(b, 32 + 12 * i as usize);
-            sum = std::num::wrapping_add_u64(sum, times(weight, item(x, i)));
+            sum = std::num::wrapping_add_u64(sum, times(weight, number(list, i)));
         }
         i += 1;
     }
     sum
 }
 
-// ---- all lists in which the equations hold, in their order: the number at the lowest variable decides first
+// ---- all lists in which the equations of a group hold, in their order: the number at the lowest variable decides first
 
-/// How many they are; the first and the last; the way from the first to the second, and whether it is the same from each to the next;
-/// the first of the best, what it is worth, and how many are worth as much; and the place of a list that was looked for.
-struct Found {
+/// How many they are; the first, the second if there is one, and the last; whether it is as far from each to the next; the first of the
+/// best, what it is worth, and how many are worth as much; and the place of the one that was given beforehand.
+pub struct Found {
     many: u32,
-    first: Five,
-    last: Five,
-    step: Five,
+    first: u64,
+    second: u64,
+    last: u64,
     even: bool,
-    best: Five,
+    best: u64,
     worth: u64,
-    equals: u32,
+    pub equals: u32,
     place: u64,
 }
 
 // More than any number on a sheet.
 const NONE: u64 = 4294967295;
 
-fn nothing() -> Found {
-    Found {
+fn all(b: &Buffer, p: Part) -> Found {
+    let mut f = Found {
         many: 0,
-        first: [0; 5],
-        last: [0; 5],
-        step: [0; 5],
+        first: 0,
+        second: 0,
+        last: 0,
         even: true,
-        best: [0; 5],
+        best: 0,
         worth: 0,
         equals: 0,
         place: NONE,
-    }
-}
-
-fn all(b: &Buffer, p: Part) -> Found {
-    let others = p.others;
-    let mut f = nothing();
+    };
     let mut code: u64 = 0;
     while code < 32768 {
-        let x = decoded(b, p, code);
-        if x.past {
+        let c = decoded(b, p, code);
+        if 0 < c.rest {
             return f;
         }
-        let numbers = x.numbers;
-        if hold(b, p, numbers) {
-            f = f.ranked(numbers, worth(b, p, numbers))
-                .with(numbers, others);
+        if hold(b, p, c.list) {
+            f = f.ranked(c.list, worth(b, p, c.list)).with(c.list, p.others);
         }
         code += 1;
     }
@@ -244,121 +280,104 @@ fn all(b: &Buffer, p: Part) -> Found {
 }
 
 impl Found {
-    fn ranked(self, x: Five, worth: u64) -> Found {
+    fn ranked(self, list: u64, worth: u64) -> Found {
         let mut f = self;
-        if self.many == 0 {
-            f.best = x;
-            f.worth = worth;
-            f.equals = 1;
-            return f;
+        if 0 < self.many {
+            if self.worth == worth {
+                f.equals = std::num::wrapping_add_u32(self.equals, 1);
+                return f;
+            }
+            if !is_less(self.worth, worth) {
+                return f;
+            }
         }
-        if is_less(self.worth, worth) {
-            f.best = x;
-            f.worth = worth;
-            f.equals = 1;
-            return f;
-        }
-        if self.worth == worth {
-            f.equals = std::num::wrapping_add_u32(self.equals, 1);
-        }
+        f.best = list;
+        f.worth = worth;
+        f.equals = 1;
         f
     }
 
-    fn with(self, x: Five, sought: Five) -> Found {
+    fn with(self, list: u64, given: u64) -> Found {
         let mut f = self;
-        let last = self.last;
-        let way = minus(x, last);
-        f.last = x;
-        f.many = std::num::wrapping_add_u32(self.many, 1);
         let many = self.many;
-        match many {
-            0 => {
-                f.first = x;
-            }
-            1 => {
-                f.step = way;
-            }
-            _ => {
-                let step = self.step;
-                f.even = if same(way, step) { self.even } else { false };
+        f.many = std::num::wrapping_add_u32(many, 1);
+        f.last = list;
+        if many == 0 {
+            f.first = list;
+        }
+        if many < 2 {
+            f.second = list;
+        } else {
+            let way = std::num::wrapping_sub_u64(list, self.last);
+            if way != std::num::wrapping_sub_u64(self.second, self.first) {
+                f.even = false;
             }
         }
-        if same(x, sought) {
+        if list == given {
             f.place = many as u64;
         }
         f
     }
 }
 
-fn minus(x: Five, y: Five) -> Five {
-    [
-        std::num::wrapping_sub_u8(x[0], y[0]),
-        std::num::wrapping_sub_u8(x[1], y[1]),
-        std::num::wrapping_sub_u8(x[2], y[2]),
-        std::num::wrapping_sub_u8(x[3], y[3]),
-        std::num::wrapping_sub_u8(x[4], y[4]),
-    ]
-}
-
-fn same(x: Five, y: Five) -> bool {
-    if x[0] == y[0] {
-        if x[1] == y[1] {
-            if x[2] == y[2] {
-                if x[3] == y[3] {
-                    return x[4] == y[4];
-                }
-            }
-        }
-    }
-    false
-}
-
 // ---- the plan
 
-/// The best of all lists, and of each group where that stands among its own.
-pub(crate) fn plan(b: &Buffer) -> Plan {
-    let labels = labels(b);
-    let whole = all(
+/// All lists in which every equation of the job holds.
+pub(crate) fn whole(b: &Buffer) -> Found {
+    all(
         b,
         Part {
             labels: [0; 5],
             group: 0,
-            others: [0; 5],
+            others: 0,
         },
-    );
-    Plan {
-        n: byte(b, 4),
-        labels: labels,
-        entries: [
-            entry(b, labels, whole, 0),
-            entry(b, labels, whole, 1),
-            entry(b, labels, whole, 2),
-            entry(b, labels, whole, 3),
-            entry(b, labels, whole, 4),
-        ],
-        best: whole.equals,
-        worth: whole.worth,
+    )
+}
+
+/// What is expected of the job; writes the sheet.
+pub(crate) fn expect(b: &mut Buffer) -> Expected {
+    let labels = labels(b);
+    let best = whole(b);
+    let n = byte(b, 4);
+    let length = format::sheet_header(b, n as u16, groups_below(labels, n), best.worth);
+    Expected {
+        answer: rows(b, labels, best, n),
+        length: length,
     }
 }
 
+// There is no fit at the first variable whose group has none.
+fn rows(b: &mut Buffer, labels: Labels, best: Found, n: u8) -> Answer {
+    let mut i: u8 = 0;
+    while i < n {
+        let x = entry(b, labels, best, i);
+        if x.fits == 0 {
+            return answer::new(answer::NO_FIT, i as u64);
+        }
+        format::sheet_rows(b, n as u16, i as u16, x);
+        i += 1;
+    }
+    answer::new(answer::PLANNED, best.worth)
+}
+
 // Solutions that are not evenly spaced would be more than a sheet can say; and where there is a list, no group is without.
-fn entry(b: &Buffer, labels: Five, whole: Found, i: u8) -> Entry {
-    let best = whole.best;
+fn entry(b: &Buffer, labels: Labels, best: Found, i: u8) -> Entry {
+    let group = label(labels, i);
     let p = Part {
         labels: labels,
-        group: item(labels, i),
-        others: best,
+        group: group,
+        others: best.best,
     };
     let f = all(b, p);
-    let first = f.first;
-    let step = f.step;
-    let odd = if f.many == 0 { 0 < whole.many } else { !f.even };
+    let base = number(f.first, i);
+    let odd = if f.many == 0 { 0 < best.many } else { !f.even };
     Entry {
-        number: wide(item(best, i)),
-        base: wide(item(first, i)),
-        step: wide(item(step, i)),
+        number: wide(number(best.best, i)),
+        base: wide(base),
+        step: wide(std::num::wrapping_sub_u8(number(f.second, i), base)),
+        group: groups_below(labels, group),
         fits: if odd { NONE } else { f.many as u64 },
         chosen: f.place,
-        gain: worth(b, p, step),
+        gain: std::num::wrapping_sub_u64(worth(b, p, f.second), worth(b, p, f.first)),
     }
 }

@@ -1,21 +1,23 @@
-//! Tables of jobs, as text: a family's name, then its jobs, one to a line. Lines that begin with # are comments.
+//! Tables of jobs, as text on standard input: a family's name, then its jobs, one to a line. Lines that begin with # are comments.
 
+ghost use Rattle.io.specs.Counts.{Counts};
 use crate::answer;
+use crate::answer::Expected;
 use crate::format;
 use crate::format::Buffer;
 use crate::format::Row;
 use crate::line;
-use crate::plan::Expected;
+use crate::random;
 use crate::search;
 use crate::text;
 use crate::text::Line;
 use crate::trial;
-use crate::wide;
+use libc::STDIN_FILENO;
 
 /// How many jobs, and how many of them came out other than expected.
 pub struct Tally {
-    pub jobs: u64,
-    pub differ: u64,
+    jobs: u64,
+    differ: u64,
 }
 
 pub(crate) fn nothing() -> Tally {
@@ -25,19 +27,18 @@ pub(crate) fn nothing() -> Tally {
 impl Tally {
     /// With one job more. If it differs, its place among the family's is printed.
     pub(crate) fn judge(self, right: bool) -> Tally {
+        let mut t = self;
+        t.jobs = std::num::wrapping_add_u64(self.jobs, 1);
         if !right {
+            t.differ = std::num::wrapping_add_u64(self.differ, 1);
             print::text(b" differs at ");
             print::count(self.jobs);
-            print::text(b"\n");
         }
-        Tally {
-            jobs: std::num::wrapping_add_u64(self.jobs, 1),
-            differ: std::num::wrapping_add_u64(self.differ, if right { 0 } else { 1 }),
-        }
+        t
     }
 
-    // The rest of a family's line, if it has any jobs.
-    fn report(self) {
+    /// The rest of a family's line, if it has any jobs.
+    pub(crate) fn report(self) {
         if 0 < self.jobs {
             print::text(b" jobs ");
             print::count(self.jobs);
@@ -48,7 +49,21 @@ impl Tally {
     }
 }
 
-pub(crate) fn run(b: &mut Buffer, e: &mut Buffer, lines: &[u8]) {
+type Text = [u8; 16384];
+
+pub(crate) fn all(b: &mut Buffer) {
+    let mut text: Text = [0; 16384];
+    let length = read(&mut text);
+    run(b, &text[..length]);
+}
+
+fn read(text: &mut Text) -> usize
+    ensures { λ r. ⌜ Counts r (now (text .exit)) ⌝ }
+{
+    io::read_full(STDIN_FILENO, text)
+}
+
+fn run(b: &mut Buffer, lines: &[u8]) {
     let mut t = nothing();
     let mut read = text::start();
     let mut from: usize = 0;
@@ -58,7 +73,7 @@ pub(crate) fn run(b: &mut Buffer, e: &mut Buffer, lines: &[u8]) {
         let next = i + 1;
         read = read.next(x);
         if x == b'\n' {
-            t = line(t, b, e, &lines[0..i], from, read);
+            t = line(t, b, &lines[0..i], from, read);
             read = text::start();
             from = next;
         }
@@ -68,7 +83,7 @@ pub(crate) fn run(b: &mut Buffer, e: &mut Buffer, lines: &[u8]) {
 }
 
 // The line from a place to the end of the text.
-fn line(t: Tally, b: &mut Buffer, e: &mut Buffer, lines: &[u8], from: usize, read: Line) -> Tally {
+fn line(t: Tally, b: &mut Buffer, lines: &[u8], from: usize, read: Line) -> Tally {
     if lines.len() <= from {
         return t;
     }
@@ -76,56 +91,61 @@ fn line(t: Tally, b: &mut Buffer, e: &mut Buffer, lines: &[u8], from: usize, rea
         return t;
     }
     if read.has(b':') {
-        return job(t, b, e, read);
+        return job(t, b, read);
     }
     t.report();
     print::text(&lines[from..]);
     nothing()
 }
 
-// One number behind the bar: so many forms of the last row. Two: a reason and a row.
-fn job(t: Tally, b: &mut Buffer, e: &mut Buffer, read: Line) -> Tally {
-    let length = if read.has(b'*') {
-        wide::write(b, read)
-    } else {
-        line::write(b, read)
-    };
-    let many = std::num::wrapping_sub_usize(read.before(b'>'), read.before(b'|'));
+// One number behind the bar: so many forms of the last row.
+fn job(t: Tally, b: &mut Buffer, read: Line) -> Tally {
+    let length = line::write(b, read);
+    let many = read.expected();
     if many == 1 {
-        return forms(t, b, e, read, length);
+        return forms(t, b, read, length);
     }
-    let x = if many == 2 {
-        refused(read)
-    } else {
-        expect(b, e, read)
-    };
-    t.judge(trial::is_right(b, length, e, x))
+    let x = expect(b, read, many);
+    t.judge(trial::is_right(b, length, x))
 }
 
-fn refused(read: Line) -> Expected {
-    let reason = (read.after(b'|', 0) % 65536) as u16;
-    let row = (read.after(b'|', 1) % 65536) as u16;
-    Expected {
-        answer: answer::refused(reason, row),
-        length: 0,
-    }
-}
-
-// Without a bar, what the plain search gives.
-fn expect(b: &Buffer, e: &mut Buffer, read: Line) -> Expected {
-    if read.has(b'*') {
-        return wide::expect(e, read);
+// Two numbers: a reason and a row. Without a bar, what the plain search gives.
+fn expect(b: &mut Buffer, read: Line, many: usize) -> Expected {
+    if many == 2 {
+        return Expected {
+            answer: answer::refused(
+                (read.after(b'|', 0) % 65536) as u16,
+                (read.after(b'|', 1) % 65536) as u16,
+            ),
+            length: 24,
+        };
     }
     if read.has(b'|') {
-        return line::plan(read).write(e);
+        return line::expect(b, read);
     }
-    search::plan(b).write(e)
+    search::expect(b)
+}
+
+// ---- pseudo-random jobs
+
+/// Some thousands of them, against the plain search.
+pub(crate) fn random(b: &mut Buffer) {
+    print::text(b"random");
+    let mut t = nothing();
+    let mut i: u64 = 0;
+    while i < 3000 {
+        let length = random::write(b, i);
+        let x = search::expect(b);
+        t = t.judge(trial::is_right(b, length, x));
+        i += 1;
+    }
+    t.report();
 }
 
 // ---- one row in many forms
 
 // The job of a line, with so many forms in the place of its last row, against the plain search.
-fn forms(t: Tally, b: &mut Buffer, e: &mut Buffer, read: Line, length: u32) -> Tally {
+fn forms(t: Tally, b: &mut Buffer, read: Line, length: u32) -> Tally {
     let n = line::variable_count(read);
     let k = std::num::wrapping_sub_u16(line::equation_count(read), 1);
     let row = line::row(read, k);
@@ -134,8 +154,8 @@ fn forms(t: Tally, b: &mut Buffer, e: &mut Buffer, read: Line, length: u32) -> T
     let mut code: u64 = 0;
     while code < end {
         format::equation(b, n, k, form(code, row));
-        let x = search::plan(b).write(e);
-        t = t.judge(trial::is_right(b, length, e, x));
+        let x = search::expect(b);
+        t = t.judge(trial::is_right(b, length, x));
         code += 1;
     }
     t

@@ -110,6 +110,20 @@ impl Line {
         }
     }
 
+    /// How many numbers are expected.
+    pub(crate) fn expected(self) -> usize {
+        std::num::wrapping_sub_usize(self.before(b'>'), self.before(b'|'))
+    }
+
+    /// Number i of the bounds.
+    pub(crate) fn bound(self, i: usize) -> u64 {
+        self.get(if self.has(b'*') {
+            std::num::wrapping_add_usize(i, 1)
+        } else {
+            i
+        })
+    }
+
     /// Number i, and number i behind a mark; 0 where there is none.
     pub(crate) fn get(self, i: usize) -> u64 {
         if i < 64 { self.numbers[i] } else { 0 }

@@ -2,78 +2,51 @@
 
 use crate::answer;
 use crate::answer::Answer;
+use crate::answer::Expected;
 use crate::format::Buffer;
+use crate::format::SHEET;
 use crate::format::byte;
 use crate::format::store;
-use crate::plan::Expected;
 
-/// The lengths of the job and of the area; how much of the area is written; and the answer.
-struct Trial {
-    length: u32,
-    size: u32,
-    written: u32,
-    expected: Answer,
+/// Is the job planned as expected? In an area that is just long enough, in a longer one, and in one that is a byte too short.
+pub(crate) fn is_right(b: &Buffer, length: u32, x: Expected) -> bool {
+    let mut area: Buffer = [0; 32896];
+    if !is_left(b, length, x.length % 65536, x, &mut area) {
+        return false;
+    }
+    if !is_left(b, length, x.length % 65536 + 9, x, &mut area) {
+        return false;
+    }
+    is_left(
+        b,
+        length,
+        std::num::wrapping_sub_u32(x.length, 1),
+        x,
+        &mut area,
+    )
 }
 
-/// Is the job in b planned as expected, where the sheet in e is? With an area that is just long enough, a longer one, and one that is a
-/// byte too short, which is reason 8, also where there is no fit, but after reasons 1 to 7. If not, the line says what differs.
-pub(crate) fn is_right(b: &Buffer, length: u32, e: &Buffer, x: Expected) -> bool {
-    let size = x.length % 65536;
-    let expected = x.answer;
-    let exact = Trial {
-        length: length,
-        size: size,
-        written: if expected.is_planned() { size } else { 0 },
-        expected: expected,
+// In an area of one size. If not, what differs is said.
+fn is_left(b: &Buffer, length: u32, size: u32, x: Expected, area: &mut Buffer) -> bool {
+    let expected = x.within(size);
+    let end = size % 65536 + 16;
+    fill(area, end);
+    if !ask(b, length, area, size).equals(expected) {
+        print::text(b" outcome");
+        return false;
+    }
+    let written = if expected.kind == answer::PLANNED {
+        x.length
+    } else {
+        0
     };
-    let mut area: Buffer = [0; 23608];
-    if !exact.is_right(b, e, &mut area) {
+    let at = first_difference(b, area, written, end);
+    if at < end {
+        print::text(b" byte ");
+        print::count(at as u64);
         return false;
     }
-    if !exact.longer().is_right(b, e, &mut area) {
-        return false;
-    }
-    exact.shorter().is_right(b, e, &mut area)
-}
-
-impl Trial {
-    fn longer(self) -> Trial {
-        let mut t = self;
-        t.size = std::num::wrapping_add_u32(self.size, 9);
-        t
-    }
-
-    fn shorter(self) -> Trial {
-        let answer = self.expected;
-        let short = Trial {
-            length: self.length,
-            size: std::num::wrapping_sub_u32(self.size, 1),
-            written: 0,
-            expected: answer::refused(8, 0),
-        };
-        if answer.is_refused() { self } else { short }
-    }
-
-    fn is_right(self, b: &Buffer, e: &Buffer, area: &mut Buffer) -> bool {
-        let end = self.size % 65536 + 16;
-        fill(area, end);
-        let expected = self.expected;
-        let given = ask(b, self.length, area, self.size);
-        if !given.equals(expected) {
-            print::text(b" ");
-            given.show();
-            print::text(b" and not ");
-            expected.show();
-            return false;
-        }
-        let at = first_difference(area, e, self.written, end);
-        if at < end {
-            print::text(b" byte ");
-            print::count(at as u64);
-            return false;
-        }
-        true
-    }
+    true
 }
 
 // The planner's answer for the first bytes of the job's buffer and of the area's.
@@ -103,20 +76,20 @@ fn fill(area: &mut Buffer, end: u32) {
 }
 
 // The first byte of an area that is not as in the sheet, or where nothing is written as before; or the end.
-fn first_difference(area: &Buffer, e: &Buffer, written: u32, end: u32) -> u32 {
+fn first_difference(b: &Buffer, area: &Buffer, written: u32, end: u32) -> u32 {
     let mut i: u32 = 0;
     while i < end {
-        let x = byte(area, i as usize);
-        if i < written {
-            if x != byte(e, i as usize) {
-                return i;
-            }
-        } else {
-            if x as u64 != pattern(i) % 256 {
-                return i;
-            }
+        if byte(area, i as usize) != expected(b, i, written) {
+            return i;
         }
         i += 1;
     }
     end
+}
+
+fn expected(b: &Buffer, i: u32, written: u32) -> u8 {
+    if i < written {
+        return byte(b, SHEET as usize + i as usize);
+    }
+    (pattern(i) % 256) as u8
 }

@@ -7,6 +7,6 @@ use Rattle.try_plan.proofs.search.all.Tie as tie
 pub all-spec : {M : Type 1} → statement M
 all-spec =
     tie.close
-    (tie.spec (λ b p others f₀ code₀ f code. code ≤ 32768) (λ b p others f₀ code₀ f code. 32768 - code) (search needs)
+    (tie.spec (λ b p f₀ code₀ f code. code ≤ 32768) (λ b p f₀ code₀ f code. 32768 - code) (search needs)
     (search needs) (search needs) (search needs) (search needs) (search needs) (search needs) (search needs)
-    (search needs) (search needs) (search needs) (search needs))
+    (search needs) (search needs) (search needs))

@@ -7,7 +7,5 @@ use Rattle.try_plan.proofs.search.decoded.Tie as tie
 pub decoded-spec : {M : Type 1} → statement M
 decoded-spec =
     tie.close
-    (tie.spec (λ b p code numbers₀ rest₀ i₀ numbers rest i. i ≤ 5) (λ b p code numbers₀ rest₀ i₀ numbers rest i. i)
-    (search needs) (search needs) (search needs) (search needs) (search needs) (search needs) (search needs)
-    (search needs) (search needs) (search needs) (search needs) (search needs) (search needs) (search needs)
-    (search needs) (search needs) (search needs) (search needs) (search needs) (search needs))
+    (tie.spec (λ b p code c₀ i₀ c i. i ≤ 5) (λ b p code c₀ i₀ c i. i) (search needs) (search needs) (search needs)
+    (search needs) (search needs) (search needs))

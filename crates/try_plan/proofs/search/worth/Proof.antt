@@ -7,6 +7,6 @@ use Rattle.try_plan.proofs.search.worth.Tie as tie
 pub worth-spec : {M : Type 1} → statement M
 worth-spec =
     tie.close
-    (tie.spec (λ b p x labels n sum₀ i₀ sum i. i ≤ n) (λ b p x labels n sum₀ i₀ sum i. n - i) (search needs)
+    (tie.spec (λ b p list sum₀ i₀ sum i. i ≤ 5) (λ b p list sum₀ i₀ sum i. 5 - i) (search needs) (search needs)
     (search needs) (search needs) (search needs) (search needs) (search needs) (search needs) (search needs)
-    (search needs) (search needs) (search needs) (search needs) (search needs) (search needs))
+    (search needs) (search needs) (search needs) (search needs))

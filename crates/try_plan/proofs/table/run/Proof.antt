@@ -8,7 +8,7 @@ use Rattle.try_plan.proofs.table.run.Tie as tie
 pub run-spec : {M : Type 1} → statement M
 run-spec =
     tie.close
-    (tie.spec (λ b₀ e₀ lines t₀ read₀ from₀ i₀ b e t read from i. i ≤ length lines)
-    (λ b₀ e₀ lines t₀ read₀ from₀ i₀ b e t read from i. length lines - i) (search needs) (search needs) (search needs)
+    (tie.spec (λ b₀ lines t₀ read₀ from₀ i₀ b t read from i. i ≤ length lines)
+    (λ b₀ lines t₀ read₀ from₀ i₀ b t read from i. length lines - i) (search needs) (search needs) (search needs)
     (search needs) (search needs) (search needs) (search needs) (search needs) (search needs) (search needs)
     (search needs) (search needs) (search needs) (search needs) (search needs) (search needs) (search needs))

@@ -7,6 +7,5 @@ use Rattle.try_plan.proofs.trial.first_difference.Tie as tie
 pub first-difference-spec : {M : Type 1} → statement M
 first-difference-spec =
     tie.close
-    (tie.spec (λ area e written end i₀ i. i ≤ end) (λ area e written end i₀ i. end - i) (search needs) (search needs)
-    (search needs) (search needs) (search needs) (search needs) (search needs) (search needs) (search needs)
-    (search needs) (search needs) (search needs) (search needs))
+    (tie.spec (λ b area written end i₀ i. i ≤ end) (λ b area written end i₀ i. end - i) (search needs) (search needs)
+    (search needs) (search needs) (search needs) (search needs) (search needs) (search needs) (search needs))

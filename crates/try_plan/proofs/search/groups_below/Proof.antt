@@ -1,8 +1,8 @@
--- `try_plan::plan::groups_below` meets its contract.
+-- `try_plan::search::groups_below` meets its contract.
 use Prim.Native.Nat.{_-_, _≤_}
 use borrow.Author.Needs.{needs}
-use Rattle.try_plan.proofs.plan.groups_below.Statement.{statement}
-use Rattle.try_plan.proofs.plan.groups_below.Tie as tie
+use Rattle.try_plan.proofs.search.groups_below.Statement.{statement}
+use Rattle.try_plan.proofs.search.groups_below.Tie as tie
 
 pub groups-below-spec : {M : Type 1} → statement M
 groups-below-spec =
