@@ -9,7 +9,7 @@ use std::sync::Mutex;
 use std::thread;
 
 use crate::damaged;
-use crate::job;
+use crate::job::{self, Refusal};
 use crate::made::{self, Size};
 use crate::plan::{plan, Outcome, Sheet};
 use crate::print::print;
@@ -25,12 +25,12 @@ const FOLDER: &str = concat!(env!("CARGO_MANIFEST_DIR"), "/target/differences");
 pub fn job_bytes(seed: u64, number: u64) -> Vec<u8> {
     let random = &mut Random::new(seed, number);
     match random.index(100) {
-        0..=24 => job::write(&made::hidden(random, Size::Small)),
-        25..=32 => job::write(&made::wild(random, 5)),
-        33..=34 => job::write(&made::wild(random, 40)),
-        35..=59 => job::write(&made::hidden(random, Size::Middle)),
-        60..=74 => job::write(&made::hidden(random, Size::Large)),
-        75..=89 => damaged::damaged(random),
+        0..=22 => job::write(&made::hidden(random, Size::Small)),
+        23..=29 => job::write(&made::wild(random, 5)),
+        30..=31 => job::write(&made::wild(random, 40)),
+        32..=54 => job::write(&made::hidden(random, Size::Middle)),
+        55..=69 => job::write(&made::hidden(random, Size::Large)),
+        70..=89 => damaged::damaged(random),
         90..=94 => damaged::at_limits(random),
         _ => damaged::of_any_length(random),
     }
@@ -43,6 +43,8 @@ struct Tally {
     no_fit: u64,
     /// by reason, from 1
     refused: [u64; 8],
+    /// by reason, from 5: at the first row, at the last of several, at another
+    rows: [[u64; 3]; 3],
     /// planned, with two or more fits in a group of two or more counts; and in one of a hundred or more
     chosen: u64,
     chosen_large: u64,
@@ -50,7 +52,7 @@ struct Tally {
 }
 
 impl Tally {
-    fn add(&mut self, outcome: &Outcome) {
+    fn add(&mut self, bytes: &[u8], outcome: &Outcome) {
         match outcome {
             Outcome::Planned(sheet) => {
                 self.planned += 1;
@@ -58,7 +60,22 @@ impl Tally {
                 self.chosen_large += u64::from(has_choice(sheet, 100));
             }
             Outcome::NoFit(_) => self.no_fit += 1,
-            Outcome::Refused(refusal) => self.refused[usize::from(refusal.reason)] += 1,
+            Outcome::Refused(refusal) => self.add_refused(bytes, refusal),
+        }
+    }
+
+    fn add_refused(&mut self, bytes: &[u8], refusal: &Refusal) {
+        let reason = usize::from(refusal.reason);
+        self.refused[reason] += 1;
+        if reason >= 5 {
+            let (n, m) = job::rows(bytes);
+            let last = if reason == 5 { n } else { m } - 1;
+            let place = match refusal.row {
+                0 => 0,
+                row if row == last => 1,
+                _ => 2,
+            };
+            self.rows[reason - 5][place] += 1;
         }
     }
 
@@ -68,8 +85,14 @@ impl Tally {
             return true;
         }
         let share = |part: u64, of: u64| part * of >= jobs;
-        let reasons = self.refused[1..].iter().all(|&times| share(times, 200));
-        share(self.planned, 3) && share(self.no_fit, 10) && share(self.chosen, 4) && share(self.chosen_large, 40) && reasons
+        let reasons = self.refused[1..].iter().all(|&times| share(times, 100));
+        let rows = jobs < 10_000 || self.rows.iter().flatten().all(|&times| share(times, 400));
+        share(self.planned, 3)
+            && share(self.no_fit, 10)
+            && share(self.chosen, 4)
+            && share(self.chosen_large, 40)
+            && reasons
+            && rows
     }
 }
 
@@ -110,7 +133,7 @@ fn compare_one(program: &str, seed: u64, number: u64, tally: &Mutex<Tally>) -> i
     };
     let printed = run(program, &bytes, piece)?;
     let mut tally = tally.lock().expect("no worker has panicked");
-    tally.add(&outcome);
+    tally.add(&bytes, &outcome);
     if printed != wanted {
         tally.different += 1;
         if tally.different <= SHOWN {
@@ -173,6 +196,7 @@ fn report(tally: &Tally, seed: u64, jobs: u64) -> bool {
     let refused: u64 = tally.refused.iter().sum();
     let varied = tally.is_varied(jobs);
     println!("second: refused by reason, from 1: {:?}", &tally.refused[1..8]);
+    println!("second: of 5 to 7 at the first row, at the last and between: {:?}", tally.rows);
     println!(
         "second: planned with a choice in a group of 2 or more counts: {}; of 100 or more: {}",
         tally.chosen, tally.chosen_large
