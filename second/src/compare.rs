@@ -9,11 +9,12 @@ use std::sync::Mutex;
 use std::thread;
 
 use crate::damaged;
-use crate::job;
+use crate::job::{self, Refusal};
 use crate::made::{self, Size};
 use crate::plan::{plan, Outcome, Sheet};
 use crate::print::print;
 use crate::random::Random;
+use crate::spoiled;
 
 /// How many run at a time, and how many differences are shown.
 const WORKERS: usize = 2;
@@ -26,7 +27,7 @@ const FOLDER: &str = concat!(env!("CARGO_MANIFEST_DIR"), "/target/differences");
 pub enum Kind {
     /// all kinds, most of them lawful
     Mixed,
-    /// lawful ones that were then spoiled in one to three places
+    /// with up to four faults at chosen places of the table
     Spoiled,
 }
 
@@ -35,7 +36,7 @@ pub fn job_bytes(kind: Kind, seed: u64, number: u64) -> Vec<u8> {
     let random = &mut Random::new(seed, number);
     match kind {
         Kind::Mixed => mixed(random),
-        Kind::Spoiled => damaged::spoiled(random),
+        Kind::Spoiled => spoiled::spoiled(random),
     }
 }
 
@@ -59,6 +60,8 @@ struct Tally {
     no_fit: u64,
     /// by reason, from 1
     refused: [u64; 8],
+    /// by reason, from 5: at the first row, at the last of several, at another
+    rows: [[u64; 3]; 3],
     /// planned, with two or more fits in a group of two or more counts; and in one of a hundred or more
     chosen: u64,
     chosen_large: u64,
@@ -66,7 +69,7 @@ struct Tally {
 }
 
 impl Tally {
-    fn add(&mut self, outcome: &Outcome) {
+    fn add(&mut self, bytes: &[u8], outcome: &Outcome) {
         match outcome {
             Outcome::Planned(sheet) => {
                 self.planned += 1;
@@ -74,7 +77,22 @@ impl Tally {
                 self.chosen_large += u64::from(has_choice(sheet, 100));
             }
             Outcome::NoFit(_) => self.no_fit += 1,
-            Outcome::Refused(refusal) => self.refused[usize::from(refusal.reason)] += 1,
+            Outcome::Refused(refusal) => self.add_refused(bytes, refusal),
+        }
+    }
+
+    fn add_refused(&mut self, bytes: &[u8], refusal: &Refusal) {
+        let reason = usize::from(refusal.reason);
+        self.refused[reason] += 1;
+        if reason >= 5 {
+            let (n, m) = job::rows(bytes);
+            let last = if reason == 5 { n } else { m } - 1;
+            let place = match refusal.row {
+                0 => 0,
+                row if row == last => 1,
+                _ => 2,
+            };
+            self.rows[reason - 5][place] += 1;
         }
     }
 
@@ -90,7 +108,10 @@ impl Tally {
                 let choices = share(self.chosen, 4) && share(self.chosen_large, 40);
                 share(self.planned, 3) && share(self.no_fit, 10) && choices && reasons(200)
             }
-            Kind::Spoiled => share(self.planned + self.no_fit, 20) && reasons(60),
+            Kind::Spoiled => {
+                let rows = self.rows.iter().flatten().all(|&times| share(times, 100));
+                share(self.planned + self.no_fit, 20) && reasons(30) && rows
+            }
         }
     }
 }
@@ -131,7 +152,7 @@ fn compare_one(program: &str, bytes: &[u8], number: u64, tally: &Mutex<Tally>) -
     };
     let printed = run(program, bytes, piece)?;
     let mut tally = tally.lock().expect("no worker has panicked");
-    tally.add(&outcome);
+    tally.add(bytes, &outcome);
     if printed != wanted {
         tally.different += 1;
         if tally.different <= SHOWN {
@@ -194,9 +215,12 @@ fn report(tally: &Tally, kind: Kind, seed: u64, jobs: u64) -> bool {
     let refused: u64 = tally.refused.iter().sum();
     let varied = tally.is_varied(kind, jobs);
     println!("second: refused by reason, from 1: {:?}", &tally.refused[1..8]);
-    if let Kind::Mixed = kind {
-        let (chosen, large) = (tally.chosen, tally.chosen_large);
-        println!("second: planned with a choice in a group of 2 or more counts: {chosen}; of 100 or more: {large}");
+    match kind {
+        Kind::Mixed => {
+            let (chosen, large) = (tally.chosen, tally.chosen_large);
+            println!("second: planned with a choice in a group of 2 or more counts: {chosen}; of 100 or more: {large}");
+        }
+        Kind::Spoiled => println!("second: of 5 to 7 at the first row, at the last and between: {:?}", tally.rows),
     }
     let verdict = match tally.different {
         0 if varied => "all equal".to_string(),

@@ -23,22 +23,6 @@ pub fn damaged(random: &mut Random) -> Vec<u8> {
     bytes
 }
 
-/// A small job that is spoiled in one to three places, in its rows or in its bytes, so that the order of the table counts.
-pub fn spoiled(random: &mut Random) -> Vec<u8> {
-    let size = random.pick(&[Size::Small, Size::Small, Size::Small, Size::Middle]);
-    let mut job = made::hidden(random, size);
-    let places = random.between(1, 3);
-    let rows = random.between(0, places);
-    for _ in 0..rows {
-        spoil_row(random, &mut job);
-    }
-    let mut bytes = job::write(&job);
-    for _ in rows..places {
-        spoil_bytes(random, &mut bytes);
-    }
-    bytes
-}
-
 /// Put a number out of range into some row, or let it name a wrong count.
 fn spoil_row(random: &mut Random, job: &mut Job) {
     let n = job.counts.len();

@@ -2,7 +2,7 @@
 //!
 //!     second plan <JOB                             prints the plan of the job on standard input
 //!     second compare PROGRAM [SEED [JOBS]]         runs PROGRAM on many jobs, and compares what it prints
-//!     second spoiled PROGRAM [SEED [JOBS]]         the same, with jobs that were spoiled in one to three places
+//!     second spoiled PROGRAM [SEED [JOBS]]         the same, with faults at chosen places of the table
 //!     second job SEED NUMBER >JOB                  writes a job of `compare`
 
 mod big;
@@ -15,6 +15,7 @@ mod print;
 mod random;
 #[cfg(test)]
 mod search;
+mod spoiled;
 #[cfg(test)]
 mod tests;
 

@@ -7,12 +7,6 @@ use Rattle.ints.proofs.Signed.{held}
 use Rattle.try_division.proofs.agrees.Statement.{statement}
 use Rattle.try_division.proofs.agrees.Tie as tie
 
-divide-requires : tie.Need-divide-requires
-divide-requires c κs = search needs
-
-enum-known-q : tie.Need-enum-known-q
-enum-known-q c = search needs
-
 is-floor-requires : tie.Need-is-floor-requires
 is-floor-requires c κs =
     let s = c .before .before .before .before in
@@ -20,34 +14,8 @@ is-floor-requires c κs =
     let k : IsQuotient (held (s .args .n)) (held (s .args .d)) (c .before .q .given .0 .0) = quotient-is _ _ _ e in
     k .inside
 
-returns : tie.Need-returns
-returns c = search needs
-
-enum-told : tie.Need-enum-told
-enum-told c = search needs
-
-slice-aggregate-text : tie.Need-slice-aggregate-text
-slice-aggregate-text c = search needs
-
-text-requires : tie.Need-text-requires
-text-requires c κs = search needs
-
-show-requires : tie.Need-show-requires
-show-requires c κs = search needs
-
-returns-2 : tie.Need-returns-2
-returns-2 c = search needs
-
 pub agrees-spec : {M : Type 1} → statement M
 agrees-spec =
     tie.close
-    (tie.spec
-    divide-requires
-    enum-known-q
-    is-floor-requires
-    returns
-    enum-told
-    slice-aggregate-text
-    text-requires
-    show-requires
-    returns-2)
+    (tie.spec (search needs) (search needs) is-floor-requires (search needs) (search needs) (search needs)
+    (search needs) (search needs) (search needs))

@@ -69,12 +69,6 @@ module _ (c : lts.Else1 (size-reads.Asked, size-reads.Learnt) reads.Pre reads.Po
   p-is : held (held d *ℤ held q) ≡ d *ℤ q
   p-is = toZ-ofZ fits-p ∙ ap₂ _*ℤ_ (toZ-ofZ fd) (toZ-ofZ fq)
 
-size-requires : tie.Need-size-requires
-size-requires c κs = search needs
-
-size-requires-2 : tie.Need-size-requires-2
-size-requires-2 c κs = search needs
-
 div-if1 : tie.Need-div-if1
 div-if1 c =
     let s = c .before .before in
@@ -87,12 +81,6 @@ add-if1 c =
     let s = c .before .before in
     let e : c .before .size .result ≡ natAbs (s .args .n) = rw (toZ-ofZ (s .fits .n)) at (c .before .size .ensures) in
     record { fits = omega (arith, div-le-self (c .before .size .result) (c .size2 .result), s .pre .dividend .size) }
-
-size-requires-3 : tie.Need-size-requires-3
-size-requires-3 c κs = search needs
-
-returns : tie.Need-returns
-returns c = search needs
 
 mul-p : tie.Need-mul-p
 mul-p c = fits-p c
@@ -111,32 +99,8 @@ add-result-2 c =
     let high : n e ≤ℤ (d e *ℤ q e) = le-true (n e) (d e *ℤ q e) .0 (rw (p-is e, toZ-ofZ (fn e)) at (c .if4 .taken)) in
     rw (p-is e, toZ-ofZ (fd e)) (more-down (n e) (d e) (d e *ℤ q e) (inside e) (wide e) down high)
 
-returns-2 : tie.Need-returns-2
-returns-2 c = search needs
-
-returns-3 : tie.Need-returns-3
-returns-3 c = search needs
-
-returns-4 : tie.Need-returns-4
-returns-4 c = search needs
-
-returns-5 : tie.Need-returns-5
-returns-5 c = search needs
-
 pub is-floor-spec : {M : Type 1} → statement M
 is-floor-spec =
     tie.close
-    (tie.spec
-    size-requires
-    size-requires-2
-    div-if1
-    add-if1
-    size-requires-3
-    returns
-    mul-p
-    add-result
-    add-result-2
-    returns-2
-    returns-3
-    returns-4
-    returns-5)
+    (tie.spec (search needs) (search needs) div-if1 add-if1 (search needs) (search needs) mul-p add-result
+    add-result-2 (search needs) (search needs) (search needs) (search needs))
