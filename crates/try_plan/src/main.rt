@@ -19,7 +19,7 @@ mod trial;
 mod search;
 // pseudo-random jobs
 mod random;
-// tables of jobs
+// the table of jobs
 mod table;
 
 fn main() {

@@ -1,4 +1,4 @@
-//! Tables of jobs, as text on standard input: a family's name, then its jobs, one to a line. Lines that begin with # are comments.
+//! The table of jobs, as text on standard input: a family's name, then its jobs, one to a line. Lines that begin with # are comments.
 
 ghost use Rattle.io.specs.Counts.{Counts};
 use crate::answer;
@@ -15,18 +15,18 @@ use crate::trial;
 use libc::STDIN_FILENO;
 
 /// How many jobs, and how many of them came out other than expected.
-pub struct Tally {
+struct Tally {
     jobs: u64,
     differ: u64,
 }
 
-pub(crate) fn nothing() -> Tally {
+fn nothing() -> Tally {
     Tally { jobs: 0, differ: 0 }
 }
 
 impl Tally {
-    /// With one job more. If it differs, its place among the family's is printed.
-    pub(crate) fn judge(self, right: bool) -> Tally {
+    // With one job more. If it differs, its place among the family's is printed.
+    fn judge(self, right: bool) -> Tally {
         let mut t = self;
         t.jobs = std::num::wrapping_add_u64(self.jobs, 1);
         if !right {
@@ -37,8 +37,8 @@ impl Tally {
         t
     }
 
-    /// The rest of a family's line, if it has any jobs.
-    pub(crate) fn report(self) {
+    // The rest of a family's line, if it has any jobs.
+    fn report(self) {
         if 0 < self.jobs {
             print::text(b" jobs ");
             print::count(self.jobs);
