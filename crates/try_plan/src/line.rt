@@ -49,9 +49,10 @@ fn place(t: Line, i: u16) -> usize {
 pub(crate) fn write(b: &mut Buffer, t: Line) -> u32 {
     let n = variable_count(t);
     let m = equation_count(t);
+    let length = format::job_header(b, n, m);
     variables(b, t, n);
     equations(b, t, n, m);
-    format::job_header(b, n, m)
+    length
 }
 
 fn variables(b: &mut Buffer, t: Line, n: u16) {

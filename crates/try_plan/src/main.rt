@@ -1,5 +1,5 @@
 //! Runs the planner. The jobs on standard input are held to what was worked out by hand, or where they are small to a plain search
-//! through all lists of numbers; and so are some thousands of pseudo-random ones. Each is planned in an area that is just long enough,
+//! through all lists of numbers, and so are some thousands of pseudo-random ones. Each is planned in an area that is just long enough,
 //! in a longer one, and in one that is a byte too short. What is compared is the outcome, and every byte of the area and of those behind
 //! it. A job that differs is named in its family's line.
 
@@ -19,11 +19,10 @@ mod trial;
 mod search;
 // pseudo-random jobs
 mod random;
-// tables of jobs
+// the table of jobs
 mod table;
 
 fn main() {
     let mut b: format::Buffer = [0; 32896];
     table::all(&mut b);
-    table::random(&mut b);
 }

@@ -21,9 +21,10 @@ pub(crate) fn write(b: &mut Buffer, i: u64) -> u32 {
     let seed = mixed(i);
     let n = 1 + draw(seed, 0, 5) % 5;
     let m = if n == 1 { 0 } else { draw(seed, 1, 7) };
+    let length = format::job_header(b, n as u16, m as u16);
     variables(b, n, seed);
     equations(b, n, m, seed);
-    format::job_header(b, n as u16, m as u16)
+    length
 }
 
 fn variables(b: &mut Buffer, n: u8, seed: u64) {

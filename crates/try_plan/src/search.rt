@@ -48,16 +48,16 @@ fn is_less(x: u64, y: u64) -> bool {
 
 // ---- groups
 
-/// For each variable the lowest one that is joined to it.
-pub type Labels = [u8; 5];
+// For each variable the lowest one that is joined to it.
+type Labels = [u8; 5];
 
-pub(crate) fn label(labels: Labels, i: u8) -> u8 {
+fn label(labels: Labels, i: u8) -> u8 {
     if i < 5 { labels[i as usize] } else { 255 }
 }
 
-/// Each variable begins with its own number. Along an equation the lower number is taken over, for so many rounds that it can come from
-/// any variable to any other.
-pub(crate) fn labels(b: &Buffer) -> Labels {
+// Each variable begins with its own number. Along an equation the lower number is taken over, for so many rounds that it can come from
+// any variable to any other.
+fn labels(b: &Buffer) -> Labels {
     let m = byte(b, 6);
     let mut labels: Labels = [0, 1, 2, 3, 4];
     let mut i: u8 = 0;
@@ -95,8 +95,8 @@ fn row(b: &Buffer, k: u8) -> usize
     24 + 12 * byte(b, 4) as usize + 20 * k as usize
 }
 
-/// How many groups have their lowest variable below i.
-pub(crate) fn groups_below(labels: Labels, end: u8) -> u16 {
+// How many groups have their lowest variable below i.
+fn groups_below(labels: Labels, end: u8) -> u16 {
     let mut g: u16 = 0;
     let mut i: u8 = 0;
     while i < end {
@@ -139,8 +139,8 @@ fn has(b: &Buffer, p: Part, i: u8) -> bool {
     }
 }
 
-/// How many numbers a variable has within its bounds.
-pub(crate) fn width(b: &Buffer, i: u8) -> u64 {
+// How many numbers a variable has within its bounds.
+fn width(b: &Buffer, i: u8) -> u64 {
     let low = byte(b, 24 + 12 * i as usize);
     let high = byte(b, 28 + 12 * i as usize);
     if is_less(wide(high), wide(low)) {
@@ -237,8 +237,8 @@ fn worth(b: &Buffer, p: Part, list: u64) -> u64 {
 // ---- all lists in which the equations of a group hold, in their order: the number at the lowest variable decides first
 
 /// How many they are; the first, the second if there is one, and the last; whether it is as far from each to the next; the first of the
-/// best, what it is worth, and how many are worth as much; and the place of the one that was given beforehand.
-pub struct Found {
+/// best, and what it is worth; and the place of the one that was given beforehand.
+struct Found {
     many: u32,
     first: u64,
     second: u64,
@@ -246,7 +246,6 @@ pub struct Found {
     even: bool,
     best: u64,
     worth: u64,
-    pub equals: u32,
     place: u64,
 }
 
@@ -262,7 +261,6 @@ fn all(b: &Buffer, p: Part) -> Found {
         even: true,
         best: 0,
         worth: 0,
-        equals: 0,
         place: NONE,
     };
     let mut code: u64 = 0;
@@ -281,19 +279,14 @@ fn all(b: &Buffer, p: Part) -> Found {
 
 impl Found {
     fn ranked(self, list: u64, worth: u64) -> Found {
-        let mut f = self;
         if 0 < self.many {
-            if self.worth == worth {
-                f.equals = std::num::wrapping_add_u32(self.equals, 1);
-                return f;
-            }
             if !is_less(self.worth, worth) {
-                return f;
+                return self;
             }
         }
+        let mut f = self;
         f.best = list;
         f.worth = worth;
-        f.equals = 1;
         f
     }
 
@@ -322,8 +315,8 @@ impl Found {
 
 // ---- the plan
 
-/// All lists in which every equation of the job holds.
-pub(crate) fn whole(b: &Buffer) -> Found {
+// All lists in which every equation of the job holds.
+fn whole(b: &Buffer) -> Found {
     all(
         b,
         Part {

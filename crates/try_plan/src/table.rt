@@ -1,4 +1,4 @@
-//! Tables of jobs, as text on standard input: a family's name, then its jobs, one to a line. Lines that begin with # are comments.
+//! The table of jobs, as text on standard input: a family's name, then its jobs, one to a line. Lines that begin with # are comments.
 
 ghost use Rattle.io.specs.Counts.{Counts};
 use crate::answer;
@@ -15,18 +15,18 @@ use crate::trial;
 use libc::STDIN_FILENO;
 
 /// How many jobs, and how many of them came out other than expected.
-pub struct Tally {
+struct Tally {
     jobs: u64,
     differ: u64,
 }
 
-pub(crate) fn nothing() -> Tally {
+fn nothing() -> Tally {
     Tally { jobs: 0, differ: 0 }
 }
 
 impl Tally {
-    /// With one job more. If it differs, its place among the family's is printed.
-    pub(crate) fn judge(self, right: bool) -> Tally {
+    // With one job more. If it differs, its place among the family's is printed.
+    fn judge(self, right: bool) -> Tally {
         let mut t = self;
         t.jobs = std::num::wrapping_add_u64(self.jobs, 1);
         if !right {
@@ -37,8 +37,8 @@ impl Tally {
         t
     }
 
-    /// The rest of a family's line, if it has any jobs.
-    pub(crate) fn report(self) {
+    // The rest of a family's line, if it has any jobs.
+    fn report(self) {
         if 0 < self.jobs {
             print::text(b" jobs ");
             print::count(self.jobs);
@@ -98,12 +98,12 @@ fn line(t: Tally, b: &mut Buffer, lines: &[u8], from: usize, read: Line) -> Tall
     nothing()
 }
 
-// One number behind the bar: so many forms of the last row.
+// One number behind the bar: so many jobs, against the plain search.
 fn job(t: Tally, b: &mut Buffer, read: Line) -> Tally {
     let length = line::write(b, read);
     let many = read.expected();
     if many == 1 {
-        return forms(t, b, read, length);
+        return forms(t, b, read);
     }
     let x = expect(b, read, many);
     t.judge(trial::is_right(b, length, x))
@@ -126,39 +126,30 @@ fn expect(b: &mut Buffer, read: Line, many: usize) -> Expected {
     search::expect(b)
 }
 
-// ---- pseudo-random jobs
-
-/// Some thousands of them, against the plain search.
-pub(crate) fn random(b: &mut Buffer) {
-    print::text(b"random");
-    let mut t = nothing();
-    let mut i: u64 = 0;
-    while i < 3000 {
-        let length = random::write(b, i);
-        let x = search::expect(b);
-        t = t.judge(trial::is_right(b, length, x));
-        i += 1;
-    }
-    t.report();
-}
-
-// ---- one row in many forms
-
-// The job of a line, with so many forms in the place of its last row, against the plain search.
-fn forms(t: Tally, b: &mut Buffer, read: Line, length: u32) -> Tally {
-    let n = line::variable_count(read);
-    let k = std::num::wrapping_sub_u16(line::equation_count(read), 1);
-    let row = line::row(read, k);
+fn forms(t: Tally, b: &mut Buffer, read: Line) -> Tally {
     let end = read.after(b'|', 0);
     let mut t = t;
     let mut code: u64 = 0;
     while code < end {
-        format::equation(b, n, k, form(code, row));
+        let length = write(b, read, code);
         let x = search::expect(b);
         t = t.judge(trial::is_right(b, length, x));
         code += 1;
     }
     t
+}
+
+// With a question mark a pseudo-random job; otherwise the job of the line, which stands in the buffer, with a form of its last row. What
+// is given is its length.
+fn write(b: &mut Buffer, read: Line, code: u64) -> u32 {
+    if read.has(b'?') {
+        return random::write(b, code);
+    }
+    let n = line::variable_count(read);
+    let m = line::equation_count(read);
+    let k = std::num::wrapping_sub_u16(m, 1);
+    format::equation(b, n, k, form(code, line::row(read, k)));
+    24 + 12 * n as u32 + 20 * m as u32
 }
 
 // With either variable on the left, a and b of both signs and 1 to 3 in size, and c from 0 out to both sides, 72 forms for each.

@@ -1,10 +1,10 @@
 //! Jobs written as text, one to a line, as
 //!
-//!     0..9 -1..4: 2c0-3c1=7; 1 -2 | 0 2 3 3, 0 -1 2 3 > 14, 8 3, 2 -1
+//!     0..9 -1..4: 2c0-3c1=7; 1 -2 | 0 2 3 3, 0 -1 2 3 > 4, 2 -1, 0 -1
 //!
 //! with the bounds of each variable before the colon; then the equations; behind a semicolon the weights, which are 0 without it; and
-//! behind a bar what is expected. What is read are whole numbers alone: F stands for the two ends of the full range, and a c with no
-//! number before it for 1.
+//! behind a bar what is expected (`line`). What is read are whole numbers alone: F stands for the two ends of the full range, and a c
+//! with no number before it for 1.
 
 /// What is read of a line: numbers in two's complement, for each mark how many stand before it, and the number that is open.
 pub struct Line {
