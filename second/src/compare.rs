@@ -9,11 +9,12 @@ use std::sync::Mutex;
 use std::thread;
 
 use crate::damaged;
-use crate::job;
+use crate::job::{self, Refusal};
 use crate::made::{self, Size};
 use crate::plan::{plan, Outcome, Sheet};
 use crate::print::print;
 use crate::random::Random;
+use crate::spoiled;
 
 /// How many run at a time, and how many differences are shown.
 const WORKERS: usize = 2;
@@ -21,9 +22,25 @@ const SHOWN: u64 = 5;
 /// The bytes and both prints of a difference are written here.
 const FOLDER: &str = concat!(env!("CARGO_MANIFEST_DIR"), "/target/differences");
 
-/// The bytes of a job, settled by the seed and its number.
-pub fn job_bytes(seed: u64, number: u64) -> Vec<u8> {
+/// What jobs a comparison goes through.
+#[derive(Clone, Copy)]
+pub enum Kind {
+    /// all kinds, most of them lawful
+    Mixed,
+    /// with up to four faults at chosen places of the table
+    Spoiled,
+}
+
+/// The bytes of a job, settled by the kind, the seed and its number.
+pub fn job_bytes(kind: Kind, seed: u64, number: u64) -> Vec<u8> {
     let random = &mut Random::new(seed, number);
+    match kind {
+        Kind::Mixed => mixed(random),
+        Kind::Spoiled => spoiled::spoiled(random),
+    }
+}
+
+fn mixed(random: &mut Random) -> Vec<u8> {
     match random.index(100) {
         0..=24 => job::write(&made::hidden(random, Size::Small)),
         25..=32 => job::write(&made::wild(random, 5)),
@@ -43,6 +60,8 @@ struct Tally {
     no_fit: u64,
     /// by reason, from 1
     refused: [u64; 8],
+    /// by reason, from 5: at the first row, at the last of several, at another
+    rows: [[u64; 3]; 3],
     /// planned, with two or more fits in a group of two or more counts; and in one of a hundred or more
     chosen: u64,
     chosen_large: u64,
@@ -50,7 +69,7 @@ struct Tally {
 }
 
 impl Tally {
-    fn add(&mut self, outcome: &Outcome) {
+    fn add(&mut self, bytes: &[u8], outcome: &Outcome) {
         match outcome {
             Outcome::Planned(sheet) => {
                 self.planned += 1;
@@ -58,18 +77,42 @@ impl Tally {
                 self.chosen_large += u64::from(has_choice(sheet, 100));
             }
             Outcome::NoFit(_) => self.no_fit += 1,
-            Outcome::Refused(refusal) => self.refused[usize::from(refusal.reason)] += 1,
+            Outcome::Refused(refusal) => self.add_refused(bytes, refusal),
+        }
+    }
+
+    fn add_refused(&mut self, bytes: &[u8], refusal: &Refusal) {
+        let reason = usize::from(refusal.reason);
+        self.refused[reason] += 1;
+        if reason >= 5 {
+            let (n, m) = job::rows(bytes);
+            let last = if reason == 5 { n } else { m } - 1;
+            let place = match refusal.row {
+                0 => 0,
+                row if row == last => 1,
+                _ => 2,
+            };
+            self.rows[reason - 5][place] += 1;
         }
     }
 
     /// Whether every kind of job is there often enough for the comparison to mean something. A short run may lack some.
-    fn is_varied(&self, jobs: u64) -> bool {
+    fn is_varied(&self, kind: Kind, jobs: u64) -> bool {
         if jobs < 1_000 {
             return true;
         }
         let share = |part: u64, of: u64| part * of >= jobs;
-        let reasons = self.refused[1..].iter().all(|&times| share(times, 200));
-        share(self.planned, 3) && share(self.no_fit, 10) && share(self.chosen, 4) && share(self.chosen_large, 40) && reasons
+        let reasons = |of| self.refused[1..].iter().all(|&times| share(times, of));
+        match kind {
+            Kind::Mixed => {
+                let choices = share(self.chosen, 4) && share(self.chosen_large, 40);
+                share(self.planned, 3) && share(self.no_fit, 10) && choices && reasons(200)
+            }
+            Kind::Spoiled => {
+                let rows = self.rows.iter().flatten().all(|&times| share(times, 100));
+                share(self.planned + self.no_fit, 20) && reasons(30) && rows
+            }
+        }
     }
 }
 
@@ -80,7 +123,7 @@ fn has_choice(sheet: &Sheet, counts: usize) -> bool {
 }
 
 /// Compare on so many jobs; whether all is well. The last line says what was done.
-pub fn compare(program: &str, seed: u64, jobs: u64) -> io::Result<bool> {
+pub fn compare(kind: Kind, program: &str, seed: u64, jobs: u64) -> io::Result<bool> {
     let (next, tally) = (AtomicU64::new(0), Mutex::new(Tally::default()));
     thread::scope(|scope| {
         let work = || -> io::Result<()> {
@@ -89,32 +132,31 @@ pub fn compare(program: &str, seed: u64, jobs: u64) -> io::Result<bool> {
                 if number >= jobs {
                     return Ok(());
                 }
-                compare_one(program, seed, number, &tally)?;
+                compare_one(program, &job_bytes(kind, seed, number), number, &tally)?;
             }
         };
         let workers: Vec<_> = (0..WORKERS).map(|_| scope.spawn(work)).collect();
         workers.into_iter().try_for_each(|worker| worker.join().expect("a worker does not panic"))
     })?;
     let tally = tally.into_inner().expect("no worker has panicked");
-    Ok(report(&tally, seed, jobs))
+    Ok(report(&tally, kind, seed, jobs))
 }
 
-fn compare_one(program: &str, seed: u64, number: u64, tally: &Mutex<Tally>) -> io::Result<()> {
-    let bytes = job_bytes(seed, number);
-    let outcome = plan(&bytes);
+fn compare_one(program: &str, bytes: &[u8], number: u64, tally: &Mutex<Tally>) -> io::Result<()> {
+    let outcome = plan(bytes);
     let wanted = print(&outcome);
     // every eighth job comes in pieces, as a slow sender's would
     let piece = match number % 8 {
         0 => bytes.len() / 5 + 1,
         _ => bytes.len() + 1,
     };
-    let printed = run(program, &bytes, piece)?;
+    let printed = run(program, bytes, piece)?;
     let mut tally = tally.lock().expect("no worker has panicked");
-    tally.add(&outcome);
+    tally.add(bytes, &outcome);
     if printed != wanted {
         tally.different += 1;
         if tally.different <= SHOWN {
-            show(number, &bytes, &printed, &wanted)?;
+            show(number, bytes, &printed, &wanted)?;
         }
     }
     Ok(())
@@ -169,20 +211,27 @@ fn show(number: u64, bytes: &[u8], printed: &str, wanted: &str) -> io::Result<()
 }
 
 /// Print what came of it; whether all is well.
-fn report(tally: &Tally, seed: u64, jobs: u64) -> bool {
+fn report(tally: &Tally, kind: Kind, seed: u64, jobs: u64) -> bool {
     let refused: u64 = tally.refused.iter().sum();
-    let varied = tally.is_varied(jobs);
+    let varied = tally.is_varied(kind, jobs);
     println!("second: refused by reason, from 1: {:?}", &tally.refused[1..8]);
-    println!(
-        "second: planned with a choice in a group of 2 or more counts: {}; of 100 or more: {}",
-        tally.chosen, tally.chosen_large
-    );
+    match kind {
+        Kind::Mixed => {
+            let (chosen, large) = (tally.chosen, tally.chosen_large);
+            println!("second: planned with a choice in a group of 2 or more counts: {chosen}; of 100 or more: {large}");
+        }
+        Kind::Spoiled => println!("second: of 5 to 7 at the first row, at the last and between: {:?}", tally.rows),
+    }
     let verdict = match tally.different {
         0 if varied => "all equal".to_string(),
         0 => "all equal, but FAILED: some kind of job is too rare".to_string(),
         different => format!("{different} DIFFERENT"),
     };
     let (planned, no_fit) = (tally.planned, tally.no_fit);
-    println!("second: seed {seed}, {jobs} jobs ({planned} planned, {no_fit} no fit, {refused} refused), {verdict}");
+    let what = match kind {
+        Kind::Mixed => "jobs",
+        Kind::Spoiled => "spoiled jobs",
+    };
+    println!("second: seed {seed}, {jobs} {what} ({planned} planned, {no_fit} no fit, {refused} refused), {verdict}");
     varied && tally.different == 0
 }

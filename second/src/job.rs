@@ -67,7 +67,7 @@ pub fn read(bytes: &[u8]) -> Result<Job, Refusal> {
     if &bytes[..4] != MARK {
         return refused(2);
     }
-    let (n, m) = (u16_at(bytes, 4), u16_at(bytes, 6));
+    let (n, m) = rows(bytes);
     if n > MOST_COUNTS || m > MOST_EQUATIONS {
         return refused(3);
     }
@@ -80,6 +80,11 @@ pub fn read(bytes: &[u8]) -> Result<Job, Refusal> {
     let equations: Vec<Equation> = bytes[start..].chunks(EQUATION_ROW).map(read_equation).collect();
     check_rows(&counts, &equations)?;
     Ok(Job { counts, equations })
+}
+
+/// How many count and equation rows the header says that there are.
+pub fn rows(bytes: &[u8]) -> (usize, usize) {
+    (u16_at(bytes, 4), u16_at(bytes, 6))
 }
 
 /// Reasons 5 to 7: the rows in turn, counts first; in one equation row 6 comes before 7.

@@ -2,7 +2,8 @@
 //!
 //!     second plan <JOB                             prints the plan of the job on standard input
 //!     second compare PROGRAM [SEED [JOBS]]         runs PROGRAM on many jobs, and compares what it prints
-//!     second job SEED NUMBER >JOB                  writes one of these jobs
+//!     second spoiled PROGRAM [SEED [JOBS]]         the same, with faults at chosen places of the table
+//!     second job SEED NUMBER >JOB                  writes a job of `compare`
 
 mod big;
 mod compare;
@@ -14,14 +15,18 @@ mod print;
 mod random;
 #[cfg(test)]
 mod search;
+mod spoiled;
 #[cfg(test)]
 mod tests;
 
 use std::io::{self, Read, Write};
 use std::process::ExitCode;
 
+use compare::Kind;
+
 const USAGE: &str = "usage: second plan <JOB
        second compare PROGRAM [SEED [JOBS]]
+       second spoiled PROGRAM [SEED [JOBS]]
        second job SEED NUMBER >JOB";
 
 fn main() -> ExitCode {
@@ -29,9 +34,8 @@ fn main() -> ExitCode {
     let words: Vec<&str> = words.iter().map(String::as_str).collect();
     let done = match words[..] {
         ["plan"] => plan_input(),
-        ["compare", program] => compare_with(program, "1", "20000"),
-        ["compare", program, seed] => compare_with(program, seed, "20000"),
-        ["compare", program, seed, jobs] => compare_with(program, seed, jobs),
+        ["compare", program, ref rest @ ..] => compare_with(Kind::Mixed, program, rest),
+        ["spoiled", program, ref rest @ ..] => compare_with(Kind::Spoiled, program, rest),
         ["job", seed, number] => write_job(seed, number),
         _ => usage(),
     };
@@ -52,16 +56,23 @@ fn plan_input() -> io::Result<bool> {
     Ok(true)
 }
 
-fn compare_with(program: &str, seed: &str, jobs: &str) -> io::Result<bool> {
-    match (seed.parse(), jobs.parse()) {
-        (Ok(seed), Ok(jobs)) => compare::compare(program, seed, jobs),
+/// With seed 1 and 20,000 jobs, unless the words say otherwise.
+fn compare_with(kind: Kind, program: &str, words: &[&str]) -> io::Result<bool> {
+    let (seed, jobs) = match *words {
+        [] => (Ok(1), Ok(20_000)),
+        [seed] => (seed.parse(), Ok(20_000)),
+        [seed, jobs] => (seed.parse(), jobs.parse()),
+        _ => return usage(),
+    };
+    match (seed, jobs) {
+        (Ok(seed), Ok(jobs)) => compare::compare(kind, program, seed, jobs),
         _ => usage(),
     }
 }
 
 fn write_job(seed: &str, number: &str) -> io::Result<bool> {
     match (seed.parse(), number.parse()) {
-        (Ok(seed), Ok(number)) => io::stdout().write_all(&compare::job_bytes(seed, number)).map(|()| true),
+        (Ok(seed), Ok(number)) => io::stdout().write_all(&compare::job_bytes(Kind::Mixed, seed, number)).map(|()| true),
         _ => usage(),
     }
 }

@@ -1,4 +1,4 @@
--- One equation more, of the groups' labels: those of its two variables become the lower of them, and every other stays.
+-- One equation more, of the components' labels: those of its two variables become the lower of them, and every other stays.
 use mathlib.Core.Path.{_≡_, refl, sym, _∙_, ap}
 use mathlib.Core.Logic.{_⊎_, inl, inr, _≢_}
 use Prim.Native.Nat.{ℕ, suc, min}
@@ -8,57 +8,57 @@ use Rattle.jobs.specs.Component.{merged, lowestBy}
 use Rattle.jobs.proofs.Components.{merged-one, Merged, first, second, other, merged-cases}
 
 module _ (j : Job) (m : ℕ) where
-  -- the groups of equation m's variables, and the one that they become
-  abbrev pub leftGroup : ℕ
-  leftGroup = lowestBy j m (equation j m .left)
+  -- the components of equation m's variables, and the one that they become
+  abbrev pub leftLabel : ℕ
+  leftLabel = lowestBy j m (equation j m .left)
 
-  abbrev pub rightGroup : ℕ
-  rightGroup = lowestBy j m (equation j m .right)
+  abbrev pub rightLabel : ℕ
+  rightLabel = lowestBy j m (equation j m .right)
 
-  abbrev pub newGroup : ℕ
-  newGroup = min leftGroup rightGroup
+  abbrev pub newLabel : ℕ
+  newLabel = min leftLabel rightLabel
 
   -- variable i is in one of the two
   abbrev pub InEither : ℕ → Type 0
-  InEither i = (lowestBy j m i ≡ leftGroup) ⊎ (lowestBy j m i ≡ rightGroup)
+  InEither i = (lowestBy j m i ≡ leftLabel) ⊎ (lowestBy j m i ≡ rightLabel)
 
-  pub next-label : (i : ℕ) → lowestBy j (suc m) i ≡ merged leftGroup rightGroup (lowestBy j m i)
+  pub next-label : (i : ℕ) → lowestBy j (suc m) i ≡ merged leftLabel rightLabel (lowestBy j m i)
   unfolding lowestBy
   next-label i = refl
 
   -- a label's way
   pub data Relabelled (i : ℕ) : Type 0 where
-    from-left : lowestBy j m i ≡ leftGroup → lowestBy j (suc m) i ≡ newGroup → Relabelled i
-    from-right : lowestBy j m i ≡ rightGroup → lowestBy j (suc m) i ≡ newGroup → Relabelled i
-    stays : lowestBy j m i ≢ leftGroup → lowestBy j m i ≢ rightGroup → lowestBy j (suc m) i ≡ lowestBy j m i → Relabelled i
+    from-left : lowestBy j m i ≡ leftLabel → lowestBy j (suc m) i ≡ newLabel → Relabelled i
+    from-right : lowestBy j m i ≡ rightLabel → lowestBy j (suc m) i ≡ newLabel → Relabelled i
+    stays : lowestBy j m i ≢ leftLabel → lowestBy j m i ≢ rightLabel → lowestBy j (suc m) i ≡ lowestBy j m i → Relabelled i
 
   pub relabelled : (i : ℕ) → Relabelled i
-  relabelled i = go (merged-cases leftGroup rightGroup (lowestBy j m i))
+  relabelled i = go (merged-cases leftLabel rightLabel (lowestBy j m i))
     where
-      go : Merged leftGroup rightGroup (lowestBy j m i) → Relabelled i
+      go : Merged leftLabel rightLabel (lowestBy j m i) → Relabelled i
       go (first e l) = from-left e (next-label i ∙ l)
       go (second e l) = from-right e (next-label i ∙ l)
       go (other a b l) = stays a b (next-label i ∙ l)
 
-  -- the new group is one of the two
-  pub new-is : (newGroup ≡ leftGroup) ⊎ (newGroup ≡ rightGroup)
-  new-is = min-cases leftGroup rightGroup ((newGroup ≡ leftGroup) ⊎ (newGroup ≡ rightGroup)) (λ l e. inl e) (λ l e. inr e)
+  -- the new component is one of the two
+  pub new-is : (newLabel ≡ leftLabel) ⊎ (newLabel ≡ rightLabel)
+  new-is = min-cases leftLabel rightLabel ((newLabel ≡ leftLabel) ⊎ (newLabel ≡ rightLabel)) (λ l e. inl e) (λ l e. inr e)
 
-  pub to-new : (i : ℕ) → InEither i → lowestBy j (suc m) i ≡ newGroup
-  to-new i h = next-label i ∙ merged-one leftGroup rightGroup (lowestBy j m i) h
+  pub to-new : (i : ℕ) → InEither i → lowestBy j (suc m) i ≡ newLabel
+  to-new i h = next-label i ∙ merged-one leftLabel rightLabel (lowestBy j m i) h
 
   -- what is in it was in one of the two
-  pub from-new : (i : ℕ) → lowestBy j (suc m) i ≡ newGroup → InEither i
+  pub from-new : (i : ℕ) → lowestBy j (suc m) i ≡ newLabel → InEither i
   from-new i h = go (relabelled i) new-is
     where
-      go : Relabelled i → (newGroup ≡ leftGroup) ⊎ (newGroup ≡ rightGroup) → InEither i
+      go : Relabelled i → (newLabel ≡ leftLabel) ⊎ (newLabel ≡ rightLabel) → InEither i
       go (from-left a b) k = inl a
       go (from-right a b) k = inr a
       go (stays a b c) (inl k) = inl (sym c ∙ h ∙ k)
       go (stays a b c) (inr k) = inr (sym c ∙ h ∙ k)
 
-  -- another group
-  module _ (g : ℕ) (n : g ≢ newGroup) where
+  -- another component
+  module _ (g : ℕ) (n : g ≢ newLabel) where
     -- has the variables that it had
     pub from-other : (i : ℕ) → lowestBy j (suc m) i ≡ g → lowestBy j m i ≡ g
     from-other i h = go (relabelled i)
@@ -70,7 +70,7 @@ module _ (j : Job) (m : ℕ) where
 
     module _ (s : lowestBy j (suc m) g ≡ g) where
       pub to-other : (i : ℕ) → lowestBy j m i ≡ g → lowestBy j (suc m) i ≡ g
-      to-other i h = next-label i ∙ ap (merged leftGroup rightGroup) (h ∙ sym (from-other g s)) ∙ sym (next-label g) ∙ s
+      to-other i h = next-label i ∙ ap (merged leftLabel rightLabel) (h ∙ sym (from-other g s)) ∙ sym (next-label g) ∙ s
 
-      pub apart : (i : ℕ) → lowestBy j m i ≡ g → (lowestBy j m i ≢ leftGroup) × (lowestBy j m i ≢ rightGroup)
+      pub apart : (i : ℕ) → lowestBy j m i ≡ g → (lowestBy j m i ≢ leftLabel) × (lowestBy j m i ≢ rightLabel)
       apart i h = (λ e. n (sym (to-other i h) ∙ to-new i (inl e)), λ e. n (sym (to-other i h) ∙ to-new i (inr e)))

@@ -10,13 +10,12 @@ use lib.ListN.{length}
 use lib.IntN.{ℤ, pos, _+ℤ_, _*ℤ_}
 use lib.Signed.{_<ℤ_, ltZ}
 use Rattle.lists.specs.Table.{table}
-use Rattle.runs.specs.declared.Run.{Run}
 use Rattle.jobs.specs.Job.{Job}
 use Rattle.jobs.specs.Solution.{number, solutions}
 use Rattle.jobs.specs.Component.{lowest}
 use Rattle.jobs.specs.Family.{componentJob, fits, base, step}
 
--- base + step·k, of a group's own job c
+-- base + step·k, of a component's own job c
 abbrev pub member : Job → ℕ → List ℤ
 member c k = table (λ i. number (base c) i +ℤ number (step c) i *ℤ pos k) (length (c .variables))
 
@@ -27,11 +26,6 @@ pub record IsFamily (j : Job) (l : ℕ) : Type 0 where
   pub rises : 2 ≤ fits (componentJob j l) → pos 0 <ℤ number (step (componentJob j l)) l
   pub rests : fits (componentJob j l) ≤ 1 → (i : ℕ) → number (step (componentJob j l)) i ≡ pos 0
   pub moves : 2 ≤ fits (componentJob j l) → (i : ℕ) → i < length (j .variables) → lowest j i ≡ l → number (step (componentJob j l)) i ≢ pos 0
-
--- what the definitions give for variable i, as a run: its number at k is first + step·k, for k below many
-unfoldable pub familyRun : Job → ℕ → Run
-unfolding base step fits componentJob lowest
-familyRun j i = let c = componentJob j (lowest j i) in record { first = number (base c) i; step = number (step c) i; many = fits c }
 
 -- "k is chosen for the greatest worth": the last member where the gain is above 0, and the first elsewhere
 abbrev pub choice : ℤ → ℕ → ℕ

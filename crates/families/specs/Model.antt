@@ -1,5 +1,5 @@
 -- The model: the planner's steps as functions on lists. They compute, however long the runs are. Nothing here has to be believed:
--- proofs/Exact.antt shows that what they end in is `familyRun`.
+-- proofs/ModelIsExact.antt shows that what they end in is `familyRun`.
 use mathlib.Core.Bool.{Bool, cond}
 use mathlib.Core.Option.{Option, none, some}
 use mathlib.Core.List.{List, map}
@@ -15,37 +15,36 @@ use Rattle.runs.specs.declared.Run.{Run}
 use Rattle.runs.specs.declared.Equation.{Equation as Form}
 use Rattle.runs.specs.Run.{empty, full}
 use Rattle.runs.specs.Method.{progression}
-use Rattle.runs.proofs.Model.{meetModel, carryModel}
-use Rattle.runs.proofs.Turns.{turned, upward}
-use Rattle.runs.proofs.Indices.{indexOf, strideIn, across}
+use Rattle.runs.specs.Model.{meetModel, carryModel}
+use Rattle.families.specs.FamilyRun.{turned, upward, indexOf, strideIn, across}
 use Rattle.jobs.specs.declared.Equation.{Equation}
 use Rattle.jobs.specs.Job.{Job, form, variable, equation}
 use Rattle.jobs.specs.Component.{merged}
 
 -- ---- the state, while equations are taken in
--- groups: of each variable, the lowest variable of its group so far.
--- runs: of each variable, its numbers in the family of its group so far. At k its number is first + step·k, for all k below
--- many; k and many are the group's, so that all its variables move together. A step may be negative; that of the group's
+-- labels: of each variable, the lowest variable of its component so far.
+-- runs: of each variable, its numbers in the family of its component so far. At k its number is first + step·k, for all k below
+-- many; k and many are the component's, so that all its variables move together. A step may be negative; that of the component's
 -- lowest variable is not.
 pub record State : Type 0 where
-  pub groups : List ℕ
+  pub labels : List ℕ
   pub runs : List Run
 
-abbrev pub groupAt : State → ℕ → ℕ
-groupAt s i = getD (s .groups) i 0
+abbrev pub labelAt : State → ℕ → ℕ
+labelAt s i = getD (s .labels) i 0
 
 abbrev pub runAt : State → ℕ → Run
 runAt s i = getD (s .runs) i empty
 
--- ---- before any equation: each variable is a group of its own, with all numbers from its low to its high
+-- ---- before any equation: each variable is a component of its own, with all numbers from its low to its high
 abbrev pub interval : ℤ → ℤ → Run
 interval low high = cond (ltZ high low) empty (progression low (pos 1) (natAbs (high -ℤ low)))
 
-unfoldable pub start : Job → State
+unfoldable pub startState : Job → State
 unfolding table meetModel
-start j =
+startState j =
     let n = length (j .variables) in
-    record { groups = upTo n; runs = table (λ i. meetModel full (interval (variable j i .low) (variable j i .high))) n }
+    record { labels = upTo n; runs = table (λ i. meetModel full (interval (variable j i .low) (variable j i .high))) n }
 
 -- ---- part of a family: the members at the indices first + step·k of a run, in its order
 abbrev pub membersAt : Run → Run → Run
@@ -54,13 +53,13 @@ membersAt r indices = record { first = r .first +ℤ r .step *ℤ indices .first
 abbrev pub through : Run → Run → Run
 through r indices = cond (eqb (indices .many) 0) empty (membersAt r indices)
 
--- ---- an equation inside a group (01's ring). At p = P .first + P .step·k and q = Q .first + Q .step·k it says
--- coefficient·k = value.
+-- ---- an equation inside a component (01's ring). At p = P .first + P .step·k and q = Q .first + Q .step·k it says
+-- coefficient·k = residual.
 abbrev pub coefficient : Form → Run → Run → ℤ
 coefficient e P Q = e .a *ℤ P .step +ℤ e .b *ℤ Q .step
 
-abbrev pub value : Form → Run → Run → ℤ
-value e P Q = e .c -ℤ (e .a *ℤ P .first +ℤ e .b *ℤ Q .first)
+abbrev pub residual : Form → Run → Run → ℤ
+residual e P Q = e .c -ℤ (e .a *ℤ P .first +ℤ e .b *ℤ Q .first)
 
 -- the index k alone, if it is one of a family of many members
 abbrev pub alone : ℤ → Run
@@ -77,19 +76,19 @@ candidate v d many = cond (isEqual (floorMod v d) (pos 0)) (inRange (floorDiv v 
 abbrev pub cycle : Form → Run → Run → Option Run
 cycle e P Q =
     cond (isEqual (coefficient e P Q) (pos 0))
-    (cond (isEqual (value e P Q) (pos 0)) none (some empty))
-    (some (candidate (value e P Q) (coefficient e P Q) (P .many)))
+    (cond (isEqual (residual e P Q) (pos 0)) none (some empty))
+    (some (candidate (residual e P Q) (coefficient e P Q) (P .many)))
 
--- ---- an equation between two groups
+-- ---- an equation between two components
 -- the indices into the family of the left variable, and into that of the right
 pub record Indices : Type 0 where
   pub left : Run
   pub right : Run
 
 -- the numbers of the left variable that some number of the right completes
-unfoldable pub common : Form → Run → Run → Run
+unfoldable pub commonNumbers : Form → Run → Run → Run
 unfolding meetModel carryModel
-common e P Q = meetModel (upward P) (carryModel e (upward Q))
+commonNumbers e P Q = meetModel (upward P) (carryModel e (upward Q))
 
 -- where the numbers of R stand in r: exact quotients
 abbrev pub indicesIn : Run → Run → Run
@@ -113,16 +112,16 @@ directed leftLeads i = cond (ltZ (leading leftLeads i .step) (pos 0)) (downwards
 abbrev pub join : Form → Run → Run → Run → Bool → Indices
 join e P Q R leftLeads = cond (eqb (R .many) 0) (record { left = empty; right = empty }) (directed leftLeads (places e P Q R))
 
--- ---- one equation: what it leaves of the groups l and r of its variables, whose runs are P and Q. None where it is redundant.
-abbrev pub both : Option Run → Option Indices
-both none = none
-both (some s) = some (record { left = s; right = s })
+-- ---- one equation: what it leaves of the components l and r of its variables, whose runs are P and Q. None where it is redundant.
+abbrev pub bothSides : Option Run → Option Indices
+bothSides none = none
+bothSides (some s) = some (record { left = s; right = s })
 
 unfoldable pub kept : Form → ℕ → ℕ → Run → Run → Option Indices
-unfolding common floorDiv floorMod
-kept e l r P Q = cond (eqb l r) (both (cycle e P Q)) (some (join e P Q (common e P Q) (ltb l r)))
+unfolding commonNumbers floorDiv floorMod
+kept e l r P Q = cond (eqb l r) (bothSides (cycle e P Q)) (some (join e P Q (commonNumbers e P Q) (ltb l r)))
 
--- the run of a variable in group g after that
+-- the run of a variable in component g after that
 abbrev pub runAfter : ℕ → ℕ → Indices → ℕ → Run → Run
 runAfter l r i g run = cond (eqb g l) (through run (i .left)) (cond (eqb g r) (through run (i .right)) run)
 
@@ -130,24 +129,24 @@ unfoldable pub change : ℕ → ℕ → Option Indices → State → State
 unfolding table
 change l r none s = s
 change l r (some i) s = record {
-  groups = map (merged l r) (s .groups);
-  runs = table (λ k. runAfter l r i (groupAt s k) (runAt s k)) (length (s .runs));
+  labels = map (merged l r) (s .labels);
+  runs = table (λ k. runAfter l r i (labelAt s k) (runAt s k)) (length (s .runs));
 }
 
 unfoldable pub next : Equation → State → State
 unfolding kept change
 next e s =
-    let l = groupAt s (e .left) in
-    let r = groupAt s (e .right) in
+    let l = labelAt s (e .left) in
+    let r = labelAt s (e .right) in
     change l r (kept (form e) l r (runAt s (e .left)) (runAt s (e .right))) s
 
 -- ---- after the first m equations, in their order
-unfoldable pub familiesBy : Job → ℕ → State
-unfolding start next
-familiesBy j zero = start j
-familiesBy j (suc m) = let s = familiesBy j m in next (equation j m) s
+unfoldable pub stateAfter : Job → ℕ → State
+unfolding startState next
+stateAfter j zero = startState j
+stateAfter j (suc m) = let s = stateAfter j m in next (equation j m) s
 
 -- and after all of them
-unfoldable pub families : Job → State
-unfolding familiesBy
-families j = familiesBy j (length (j .equations))
+unfoldable pub stateAfterAll : Job → State
+unfolding stateAfter
+stateAfterAll j = stateAfter j (length (j .equations))

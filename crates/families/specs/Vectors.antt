@@ -3,7 +3,7 @@ use mathlib.Core.Path.{_≡_, refl, ap}
 use mathlib.Core.Bool.{Bool, true, false}
 use mathlib.Core.Option.{Option, none, some}
 use mathlib.Core.List.{List, [], _∷_, _++_, map}
-use Prim.Native.Nat.{ℕ, _+_, _*_, _-_}
+use Prim.Native.Nat.{ℕ, _+_, _*_}
 use lib.Dec.{eqb}
 use lib.ListN.{length, drop}
 use lib.IntN.{ℤ, pos, negℤ}
@@ -15,16 +15,17 @@ use Rattle.lists.proofs.Maps.{same-values}
 use Rattle.runs.specs.declared.Run.{Run}
 use Rattle.runs.specs.declared.Equation.{Equation as Form}
 use Rattle.runs.specs.Run.{empty, full}
-use Rattle.jobs.specs.Bytes.{unsigned, u16}
+use Rattle.bytes.specs.LittleEndian.{unsigned, u16}
 use Rattle.jobs.specs.Decide.{equal?, firstOf}
 use Rattle.jobs.specs.Job.{jobOf}
 use Rattle.jobs.specs.Component.{leads, componentCount}
 use Rattle.jobs.specs.Faults.{Answer, accepted, checked}
 use Rattle.jobs.specs.Verdict.{Verdict, planned, noFit, refused}
 use Rattle.jobs.specs.Demands.{baseOn, stepOn, groupOn, fitsOn}
+use Rattle.jobs.specs.JobBytes.{plus, minus, header, count, plain, equationBytes, total, difference}
 use Rattle.jobs.specs.Vectors.{Vector, fitted, vectors}
 use Rattle.families.specs.Family.{choice}
-use Rattle.families.specs.Model.{State, groupAt, runAt, interval, through, candidate, cycle, Indices, common, directed, kept, families}
+use Rattle.families.specs.Model.{State, labelAt, runAt, interval, through, candidate, cycle, Indices, commonNumbers, directed, kept, stateAfterAll}
 
 abbrev run : ℤ → ℤ → ℕ → Run
 run first step many = record { first = first; step = step; many = many }
@@ -35,7 +36,7 @@ run first step many = record { first = first; step = step; many = many }
 -- that are written, none where there is no fit
 pub record Worked : Type 0 where
   pub job : List ℕ
-  pub groups : List ℕ
+  pub labels : List ℕ
   pub g : ℕ
   pub runs : List Run
   pub room : ℕ
@@ -45,35 +46,6 @@ pub record Worked : Type 0 where
 -- what stands in the area afterwards: those bytes, and behind them what stood there before
 abbrev pub after : Worked → List ℕ → List ℕ
 after v area = v .sheet ++ drop (length (v .sheet)) area
-
--- four bytes of k and of −k, for k from 1 to 255; those of 0 are `plus 0`
-abbrev plus : ℕ → List ℕ
-plus k = k ∷ 0 ∷ 0 ∷ 0 ∷ []
-
-abbrev minus : ℕ → List ℕ
-minus k = (256 - k) ∷ 255 ∷ 255 ∷ 255 ∷ []
-
--- n counts and m equations; where the equation rows begin, and where they end. All of them fit one byte, and so do left, right
--- and c below.
-abbrev header : ℕ → ℕ → ℕ → ℕ → List ℕ
-header n m rows whole = 70 ∷ 73 ∷ 84 ∷ 49 ∷ n ∷ 0 ∷ m ∷ 0 ∷ 24 ∷ 0 ∷ 0 ∷ 0 ∷ rows ∷ 0 ∷ 0 ∷ 0 ∷ whole ∷ 0 ∷ 0 ∷ 0 ∷ 0 ∷ 0 ∷ 0 ∷ 0 ∷ []
-
-abbrev count : List ℕ → List ℕ → List ℕ → List ℕ
-count low high weight = low ++ high ++ weight
-
--- 0..high, without weight
-abbrev plain : ℕ → List ℕ
-plain high = count (plus 0) (plus high) (plus 0)
-
-abbrev equation : ℕ → ℕ → List ℕ → List ℕ → ℕ → List ℕ
-equation left right a b c = left ∷ 0 ∷ right ∷ 0 ∷ [] ++ a ++ b ++ c ∷ 0 ∷ 0 ∷ 0 ∷ 0 ∷ 0 ∷ 0 ∷ 0 ∷ []
-
--- c0 + c1 = c and c0 − c1 = c
-abbrev total : ℕ → List ℕ
-total c = equation 0 1 (plus 1) (plus 1) c
-
-abbrev difference : ℕ → List ℕ
-difference c = equation 0 1 (plus 1) (minus 1) c
 
 -- two counts with one equation, and with two
 abbrev once : List ℕ → List ℕ → List ℕ → List ℕ
@@ -90,9 +62,9 @@ jobM =
     count (plus 0) (plus 9) (minus 10) ++
     count (plus 2) (plus 5) (plus 0) ++
     -- 16·c0 − c1 = 0
-    equation 0 1 (plus 16) (minus 1) 0 ++
+    equationBytes 0 1 (plus 16) (minus 1) 0 ++
     -- 2·c0 − 3·c2 = 4
-    equation 0 2 (plus 2) (minus 3) 4
+    equationBytes 0 2 (plus 2) (minus 3) 4
 
 -- −1,000,000,000..1,000,000,000, weight 1,000,000
 abbrev widest : List ℕ
@@ -172,7 +144,7 @@ widestSheet =
 abbrev tied : List ℕ → Run → Run → Verdict → List ℕ → Worked
 tied job run0 run1 verdict sheet = record {
   job = job;
-  groups = 0 ∷ 0 ∷ [];
+  labels = 0 ∷ 0 ∷ [];
   g = 1;
   runs = run0 ∷ run1 ∷ [];
   room = 72;
@@ -188,7 +160,7 @@ markedJobs =
     -- M: c0 is 2, 5, 8 or 11; at 14 c1 would be over 200
     record {
       job = jobM;
-      groups = 0 ∷ 0 ∷ 0 ∷ 3 ∷ [];
+      labels = 0 ∷ 0 ∷ 0 ∷ 3 ∷ [];
       g = 2;
       runs = run (pos 2) (pos 3) 4 ∷ run (pos 32) (pos 48) 4 ∷ run (pos 0) (pos 2) 4 ∷ run (pos 2) (pos 1) 4 ∷ [];
       room = 120;
@@ -196,24 +168,24 @@ markedJobs =
       sheet = sheetM;
     } ∷
     -- no counts
-    record { job = header 0 0 24 24; groups = []; g = 0; runs = []; room = 24; verdict = planned (pos 0); sheet = emptySheet } ∷
+    record { job = header 0 0 24 24; labels = []; g = 0; runs = []; room = 24; verdict = planned (pos 0); sheet = emptySheet } ∷
     -- 2·c0 + 4·c1 = 7
-    without (once (plain 9) (plain 9) (equation 0 1 (plus 2) (plus 4) 7)) ∷
+    without (once (plain 9) (plain 9) (equationBytes 0 1 (plus 2) (plus 4) 7)) ∷
     -- 3·c0 − 5·c1 = 0: of 1..4 none is a multiple of 5
-    without (once (count (plus 1) (plus 4) (plus 0)) (plain 9) (equation 0 1 (plus 3) (minus 5) 0)) ∷
+    without (once (count (plus 1) (plus 4) (plus 0)) (plain 9) (equationBytes 0 1 (plus 3) (minus 5) 0)) ∷
     -- a ring whose single candidate is 3½ and 1½, and one where it is 3 and 2
-    without (twice (plain 9) (plain 9) (total 5) (difference 2)) ∷
-    tied (twice (plain 9) (plain 9) (total 5) (difference 1)) (run (pos 3) (pos 0) 1) (run (pos 2) (pos 0) 1) (planned (pos 0)) singleSheet ∷
+    without (twice (plain 9) (plain 9) (total 0 1 5) (difference 0 1 2)) ∷
+    tied (twice (plain 9) (plain 9) (total 0 1 5) (difference 0 1 1)) (run (pos 3) (pos 0) 1) (run (pos 2) (pos 0) 1) (planned (pos 0)) singleSheet ∷
     -- a ring that is redundant, and one that leaves none
-    tied (twice (plain 3) (plain 3) (difference 0) (difference 0)) (run (pos 0) (pos 1) 4) (run (pos 0) (pos 1) 4) (planned (pos 0)) redundantSheet ∷
-    without (twice (plain 3) (plain 3) (difference 0) (difference 1)) ∷
+    tied (twice (plain 3) (plain 3) (difference 0 1 0) (difference 0 1 0)) (run (pos 0) (pos 1) 4) (run (pos 0) (pos 1) 4) (planned (pos 0)) redundantSheet ∷
+    without (twice (plain 3) (plain 3) (difference 0 1 0) (difference 0 1 1)) ∷
     -- c0 + 2·c1 = 0
-    tied (once (count (minus 5) (plus 5) (plus 0)) (count (minus 3) (plus 3) (plus 1)) (equation 0 1 (plus 1) (plus 2) 0))
+    tied (once (count (minus 5) (plus 5) (plus 0)) (count (minus 3) (plus 3) (plus 1)) (equationBytes 0 1 (plus 1) (plus 2) 0))
     (run (negℤ (pos 4)) (pos 2) 5) (run (pos 2) (negℤ (pos 1)) 5) (planned (pos 2)) slantedSheet ∷
     -- the full range
     record {
       job = widest;
-      groups = 0 ∷ [];
+      labels = 0 ∷ [];
       g = 1;
       runs = run (negℤ (pos 1000000000)) (pos 1) 2000000001 ∷ [];
       room = 56;
@@ -222,23 +194,23 @@ markedJobs =
     } ∷ []
 
 -- the lowest variable of each group
-abbrev pub labels : State → List ℕ
-labels s = keep (λ i. eqb (groupAt s i) i) (upTo (length (s .groups)))
+abbrev pub leadsOf : State → List ℕ
+leadsOf s = keep (λ i. eqb (labelAt s i) i) (upTo (length (s .labels)))
 
 abbrev given : Worked → Answer × (State × (ℕ × ℕ))
-given v = let s = families (jobOf (v .job)) in (checked (v .job), (s, (length (labels s), componentCount (jobOf (v .job)))))
+given v = let s = stateAfterAll (jobOf (v .job)) in (checked (v .job), (s, (length (leadsOf s), componentCount (jobOf (v .job)))))
 
 abbrev expected : Worked → Answer × (State × (ℕ × ℕ))
-expected v = (accepted, (record { groups = v .groups; runs = v .runs }, (v .g, v .g)))
+expected v = (accepted, (record { labels = v .labels; runs = v .runs }, (v .g, v .g)))
 
 marked-computed : map given markedJobs ≡ map expected markedJobs
-unfolding checked families jobOf leads keep unsigned table
+unfolding checked stateAfterAll jobOf leads keep unsigned table
 marked-computed = refl
 
 -- the job check accepts each of them, the model gives what was worked out, and as many groups as the definition
 pub marked : (v : Worked) → v ∈ markedJobs →
-    (checked (v .job) ≡ accepted) × ((families (jobOf (v .job)) ≡ record { groups = v .groups; runs = v .runs }) ×
-    ((length (labels (families (jobOf (v .job)))) ≡ v .g) × (componentCount (jobOf (v .job)) ≡ v .g)))
+    (checked (v .job) ≡ accepted) × ((stateAfterAll (jobOf (v .job)) ≡ record { labels = v .labels; runs = v .runs }) ×
+    ((length (leadsOf (stateAfterAll (jobOf (v .job)))) ≡ v .g) × (componentCount (jobOf (v .job)) ≡ v .g)))
 marked v h =
     let e = same-values given expected marked-computed h in
     (ap (λ p. p .0) e, (ap (λ p. p .1 .0) e, (ap (λ p. p .1 .1 .0) e, ap (λ p. p .1 .1 .1) e)))
@@ -250,7 +222,7 @@ onSheet v =
     let s = v .after in
     let n = u16 s 4 in
     record {
-      groups = table (λ i. place (λ k. eqb (groupOn s k) (groupOn s i)) (upTo n)) n;
+      labels = table (λ i. place (λ k. eqb (groupOn s k) (groupOn s i)) (upTo n)) n;
       runs = table (λ i. run (baseOn s i) (stepOn s i) (fitsOn (jobOf (v .job)) s (groupOn s i))) n;
     }
 
@@ -259,20 +231,20 @@ abbrev groupsOn : Vector → List ℕ
 groupsOn v = upTo (u16 (v .after) 6)
 
 abbrev modelled : Vector → State × List ℕ
-modelled v = let s = families (jobOf (v .job)) in (s, map (groupOn (v .after)) (labels s))
+modelled v = let s = stateAfterAll (jobOf (v .job)) in (s, map (groupOn (v .after)) (leadsOf s))
 
 fitted-computed : map modelled fitted ≡ map (λ v. (onSheet v, groupsOn v)) fitted
-unfolding families jobOf unsigned keep place table
+unfolding stateAfterAll jobOf unsigned keep place table
 fitted-computed = refl
 
 -- the model gives what stands on the sheet, where its groups, in the order of their lowest variables, are numbered from 0
 pub fitted-model : (v : Vector) → v ∈ fitted →
-    (families (jobOf (v .job)) ≡ onSheet v) × (map (groupOn (v .after)) (labels (families (jobOf (v .job)))) ≡ groupsOn v)
+    (stateAfterAll (jobOf (v .job)) ≡ onSheet v) × (map (groupOn (v .after)) (leadsOf (stateAfterAll (jobOf (v .job)))) ≡ groupsOn v)
 fitted-model v h = let e = same-values modelled (λ v. (onSheet v, groupsOn v)) fitted-computed h in (ap (λ p. p .0) e, ap (λ p. p .1) e)
 
 -- the lowest variable of the first group without a solution
 abbrev firstEmpty : State → Option ℕ
-firstEmpty s = firstOf (λ l. equal? (runAt s l .many) 0) (labels s)
+firstEmpty s = firstOf (λ l. equal? (runAt s l .many) 0) (leadsOf s)
 
 -- what a verdict says of it
 abbrev named : Verdict → Option ℕ
@@ -290,13 +262,13 @@ unfoldable pub sought : List Vector
 unfolding keep
 sought = keep (λ v. isSought (v .verdict)) vectors
 
-sought-computed : map (λ v. firstEmpty (families (jobOf (v .job)))) sought ≡ map (λ v. named (v .verdict)) sought
-unfolding sought families jobOf unsigned firstOf keep table
+sought-computed : map (λ v. firstEmpty (stateAfterAll (jobOf (v .job)))) sought ≡ map (λ v. named (v .verdict)) sought
+unfolding sought stateAfterAll jobOf unsigned firstOf keep table
 sought-computed = refl
 
 -- the model has an empty group exactly where the verdict is no fit, and the first of them is the one that is named
-pub sought-model : (v : Vector) → v ∈ sought → firstEmpty (families (jobOf (v .job))) ≡ named (v .verdict)
-sought-model v h = same-values (λ v. firstEmpty (families (jobOf (v .job)))) (λ v. named (v .verdict)) sought-computed h
+pub sought-model : (v : Vector) → v ∈ sought → firstEmpty (stateAfterAll (jobOf (v .job))) ≡ named (v .verdict)
+sought-model v h = same-values (λ v. firstEmpty (stateAfterAll (jobOf (v .job)))) (λ v. named (v .verdict)) sought-computed h
 
 -- ---- pieces
 -- a low above its high, a low that is its high, and −2..3
@@ -382,8 +354,8 @@ unfolding kept
 joins-none = refl
 
 -- document 01: 1,000,000·c0 − 999,999·c1 = 1 over the full range
-longest : common (by (pos 1000000) (negℤ (pos 999999)) (pos 1)) full full ≡ run (negℤ (pos 999998999)) (pos 999999) 2000
-unfolding common
+longest : commonNumbers (by (pos 1000000) (negℤ (pos 999999)) (pos 1)) full full ≡ run (negℤ (pos 999998999)) (pos 999999) 2000
+unfolding commonNumbers
 longest = refl
 
 -- a gain, none and a loss

@@ -2,7 +2,6 @@
 
 ghost use Prim.Native.Nat.{_≤_};
 use crate::line;
-use jobs::bytes;
 use planner::Outcome;
 use reasons::Reason;
 

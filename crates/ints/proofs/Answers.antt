@@ -11,14 +11,14 @@ use lib.IntN.{ℤ, pos}
 use Rattle.ints.specs.Equal.{isEqual}
 use Rattle.ints.specs.Within.{Within, isWithin}
 use Rattle.ints.specs.Floor.{floorDiv}
-use Rattle.ints.specs.Division.{quotient, refused, limit, InLimits, inLimits, division}
+use Rattle.ints.specs.Division.{quotient, refused, limit, DivisionLimits, divisionLimits, division}
 use Rattle.ints.proofs.Equal.{equal-true, equal-false}
 use Rattle.ints.proofs.Within.{within-true}
 use Rattle.ints.proofs.Linear.{lin}
 use Rattle.ints.proofs.Signed.{held, signed}
 
 -- ---- the test and the limits
-pub in-limits-out : (n d : ℤ) → inLimits n d ≡ true → InLimits n d
+pub in-limits-out : (n d : ℤ) → divisionLimits n d ≡ true → DivisionLimits n d
 in-limits-out n d e =
     let (a, bc) = and-eq-true-iff (isWithin limit n) (isWithin limit d && not (isEqual d (pos 0))) .0 e in
     let (b, c) = and-eq-true-iff (isWithin limit d) (not (isEqual d (pos 0))) .0 bc in
@@ -28,7 +28,7 @@ in-limits-out n d e =
       not-zero = λ z. false≢true (sym (ap not (equal-true d (pos 0) .1 z)) ∙ c);
     }
 
-pub in-limits-into : (n d : ℤ) → InLimits n d → inLimits n d ≡ true
+pub in-limits-into : (n d : ℤ) → DivisionLimits n d → divisionLimits n d ≡ true
 in-limits-into n d h =
     and-eq-true-iff (isWithin limit n) (isWithin limit d && not (isEqual d (pos 0))) .1 (
       within-true limit n .1 (h .dividend),
@@ -37,25 +37,25 @@ in-limits-into n d h =
     )
 
 -- ---- the answer
-pub gives-floor : (n d : ℤ) → InLimits n d → division n d ≡ quotient (floorDiv n d)
+pub gives-floor : (n d : ℤ) → DivisionLimits n d → division n d ≡ quotient (floorDiv n d)
 gives-floor n d h = rw (in-limits-into n d h)
 
-pub refuses : (n d : ℤ) → ¬ InLimits n d → division n d ≡ refused 9 0
-refuses n d h = go (inLimits n d) refl
+pub refuses : (n d : ℤ) → ¬ DivisionLimits n d → division n d ≡ refused 9 0
+refuses n d h = go (divisionLimits n d) refl
   where
-    go : (b : Bool) → inLimits n d ≡ b → cond b (quotient (floorDiv n d)) (refused 9 0) ≡ refused 9 0
+    go : (b : Bool) → divisionLimits n d ≡ b → cond b (quotient (floorDiv n d)) (refused 9 0) ≡ refused 9 0
     go true e = absurd (h (in-limits-out n d e))
     go false e = refl
 
 -- a quotient is the floor, and the arguments were within the limits
 pub record IsQuotient (n d q : ℤ) : Type 0 where
-  pub inside : InLimits n d
+  pub inside : DivisionLimits n d
   pub is : q ≡ floorDiv n d
 
 pub quotient-is : (n d q : ℤ) → quotient q ≡ division n d → IsQuotient n d q
-quotient-is n d q e = go (inLimits n d) refl e
+quotient-is n d q e = go (divisionLimits n d) refl e
   where
-    go : (b : Bool) → inLimits n d ≡ b → quotient q ≡ cond b (quotient (floorDiv n d)) (refused 9 0) → IsQuotient n d q
+    go : (b : Bool) → divisionLimits n d ≡ b → quotient q ≡ cond b (quotient (floorDiv n d)) (refused 9 0) → IsQuotient n d q
     go true t e = record { inside = in-limits-out n d t; is = cc }
     go false t e = absurd (let z : _≡_ {A = ℕ} 0 1 = cc in omega arith)
 
@@ -63,8 +63,8 @@ quotient-is n d q e = go (inLimits n d) refl e
 pub fits-limit : {n : ℤ} → Within limit n → SFits w64 n
 fits-limit {n} h = lin (n ∷ []) h (search signed depth 20) (omega arith)
 
-module _ {n d : ℤ} (h : InLimits n d) where
-  pub asked : InLimits (held n) (held d)
+module _ {n d : ℤ} (h : DivisionLimits n d) where
+  pub asked : DivisionLimits (held n) (held d)
   asked = rw (toZ-ofZ (fits-limit (h .dividend)), toZ-ofZ (fits-limit (h .divisor))) h
 
   pub answered : {r : ℤ} (op : ℤ → ℤ → ℤ) → r ≡ op (held n) (held d) → r ≡ op n d

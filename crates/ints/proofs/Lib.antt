@@ -25,7 +25,7 @@
 
 -- integers as differences of naturals: the ground
 pub mod Difference
--- the order, and the tests `ltZ` and `leZ`
+-- the order (`le-trans`, `le-antisym`, `le-or-lt`), and the tests `ltZ` and `leZ`
 pub mod Order
 -- the laws of the ring
 pub mod RingLaws
@@ -35,26 +35,28 @@ pub mod Polynomial
 pub mod Ring
 -- the tool `lin`
 pub mod Linear
--- products of facts and of sizes, cancelling a factor
+-- products of facts and of sizes (`prod`, `within-mul`), cancelling a factor (`cancel`)
 pub mod Products
 -- the tests `isWithin` and `isEqual`
 pub mod Within
 pub mod Equal
 -- what the checker asks of signed code: `lin` with the ruleset `signed`
 pub mod Signed
--- division rounded down
+-- division rounded down: `div-mod`, `mod-range`, and no other quotient and remainder (`div-mod-unique`); rounding a bound loses no
+-- whole number (`floor-iff`, `ceil-iff`), `floor-mono`, `floor-within`; each with a twin for a negative divisor (`-neg`)
 pub mod Floor
 -- residues, as two's complement has them
 pub mod Residues
--- the machine's division, and the floor from it
+-- the machine's division, and the floor from it: one less where the signs differ (`floor-same`, `floor-less`)
 pub mod Truncated
--- divisibility
+-- divisibility: `gauss`; an exact quotient (`floor-exact`, `divides-iff`); each class has one member from 0 to d − 1, the
+-- remainder (`mod-congruent`, `mod-least`)
 pub mod Divides
--- the greatest common divisor, with Bézout's identity
+-- the greatest common divisor (`gcd-is`), with Bézout's identity (`bezout`)
 pub mod Gcd
--- u·x ≡ v (mod d)
+-- u·x ≡ v (mod d): no solution, or one class modulo d / gcd(u, d) (`solutions`, `class`)
 pub mod Congruence
--- what callers of the division working go by
+-- what callers of the division working go by: within the limits it gives the floor (`gives-floor`), outside it `refuses`
 pub mod Answers
 -- each tool at work
 pub mod Examples

@@ -3,7 +3,7 @@
 use mathlib.Core.Path.{_≡_, refl, ap}
 use mathlib.Core.Logic.{_↔_, _⊎_, inl, inr, _≢_}
 use mathlib.Core.Bool.{Bool, true, false, not, true≢false, false≢true}
-use Prim.Native.Nat.{ℕ, zero, suc}
+use Prim.Native.Nat.{ℕ, zero, suc, _<_}
 use native.Mathlib.Omega.{arith}
 use lib.Dec.{T, leb→le, ltb→lt, lt→ltb, nleb→lt}
 use lib.Arith.{le→nltb, lt→nleb}
@@ -31,6 +31,9 @@ le-lt-trans = for3 _ (λ a b c d e f. simp differences (omega arith))
 
 pub nat-nonneg : (n : ℕ) → pos 0 ≤ℤ pos n
 nat-nonneg n = le-parts (pos 0) (pos n) .1 (omega arith)
+
+pub pos-below : {m n : ℕ} → m < n → pos m <ℤ pos n
+pos-below {m} {n} h = lt-parts (pos m) (pos n) .1 (omega arith)
 
 pub nat-not-below : {X : Type 0} (n : ℕ) → pos n <ℤ pos 0 → X
 nat-not-below n h = clashℤ h (nat-nonneg n)

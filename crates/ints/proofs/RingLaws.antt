@@ -8,9 +8,6 @@ use Rattle.ints.proofs.Difference.{differences, for1, for2, for3, for4}
 pub *ℤ-assoc : (x y z : ℤ) → (x *ℤ y) *ℤ z ≡ x *ℤ (y *ℤ z)
 *ℤ-assoc = for3 _ (λ a b c d e f. simp differences (omega arith))
 
-pub *ℤ-distribˡ : (x y z : ℤ) → x *ℤ (y +ℤ z) ≡ x *ℤ y +ℤ x *ℤ z
-*ℤ-distribˡ = for3 _ (λ a b c d e f. simp differences (omega arith))
-
 pub *ℤ-distribʳ : (x y z : ℤ) → (x +ℤ y) *ℤ z ≡ x *ℤ z +ℤ y *ℤ z
 *ℤ-distribʳ = for3 _ (λ a b c d e f. simp differences (omega arith))
 

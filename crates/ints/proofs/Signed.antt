@@ -78,6 +78,10 @@ bits-zero w (negsuc a) f =
 pub cast : (n : ℕ) → n < 9223372036854775808 → toZ w64 n ≡ pos n
 cast n h = toZ-ofZ {w = w64} {z = pos n} record { sfits = h }
 
+-- ---- what a call has given is still there
+pub held-is : {x y : ℤ} → mag x < 2 ^ hbits w64 → x ≡ y → held x ≡ y
+held-is {x} f e = toZ-ofZ {w = w64} {z = x} (record { sfits = f }) ∙ e
+
 -- ---- what a call on signed locals, and a branch on its result, tell of the numbers
 pub told : {w : Width} {x : ℤ} {r b : Bool} (test : ℤ → Bool) → SFits w x → r ≡ test (toZ w (ofZ w x)) → r ≡ b → test x ≡ b
 told test f e t = ap test (sym (toZ-ofZ f)) ∙ sym e ∙ t

@@ -11,28 +11,28 @@ use Rattle.ints.specs.declared.Division.{Division}
 use Rattle.ints.specs.declared.Division.the-variants.{Quotient, Refused}
 
 -- an answer in document 01's terms: a quotient, or refused with a reason and a row
-pub data Answer : Type 0 where
-  quotient : ℤ → Answer
-  refused : ℕ → ℕ → Answer
+pub data DivisionAnswer : Type 0 where
+  quotient : ℤ → DivisionAnswer
+  refused : ℕ → ℕ → DivisionAnswer
 
 -- what each case of the program's enum says
-abbrev pub answerOf : Division → Answer
-answerOf (Quotient q) = quotient q
-answerOf (Refused r) = refused (numberOf r) (rowOf r)
+abbrev pub divisionAnswerOf : Division → DivisionAnswer
+divisionAnswerOf (Quotient q) = quotient q
+divisionAnswerOf (Refused r) = refused (numberOf r) (rowOf r)
 
 abbrev pub limit : ℕ
 limit = 4000000000000000000
 
 -- "Both arguments lie within ±4,000,000,000,000,000,000, divisor not 0."
-pub record InLimits (n d : ℤ) : Type 0 where
+pub record DivisionLimits (n d : ℤ) : Type 0 where
   pub dividend : Within limit n
   pub divisor : Within limit d
   pub not-zero : d ≢ pos 0
 
 -- the same as a test (proofs/Answers.antt: the two agree)
-abbrev pub inLimits : ℤ → ℤ → Bool
-inLimits n d = isWithin limit n && (isWithin limit d && not (isEqual d (pos 0)))
+abbrev pub divisionLimits : ℤ → ℤ → Bool
+divisionLimits n d = isWithin limit n && (isWithin limit d && not (isEqual d (pos 0)))
 
 -- the quotient rounded down, or reason 9
-abbrev pub division : ℤ → ℤ → Answer
-division n d = cond (inLimits n d) (quotient (floorDiv n d)) (refused 9 0)
+abbrev pub division : ℤ → ℤ → DivisionAnswer
+division n d = cond (divisionLimits n d) (quotient (floorDiv n d)) (refused 9 0)

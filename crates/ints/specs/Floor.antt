@@ -1,6 +1,6 @@
 -- Division rounded down: document 01, "the quotient rounded towards the lower whole number, also when either sign is
--- negative". n and d may have either sign; d is not 0. proofs/Floor.antt has the laws: they, not this text, are what
--- other proofs go by.
+-- negative". n and d may have either sign; d is not 0 (at 0 there is a value too, which no law and no contract uses).
+-- proofs/Floor.antt has the laws: they, not this text, are what other proofs go by.
 use lib.IntN.{ℤ, pos, negsuc, negℤ, _-ℤ_, _*ℤ_}
 use Prim.Native.Nat.{suc}
 use lib.Signed.{shrZ}

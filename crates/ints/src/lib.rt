@@ -7,7 +7,7 @@ ghost use mathlib.Core.Logic.{_≢_};
 ghost use lib.IntN.{pos, natAbs};
 ghost use Rattle.ints.specs.Within.{Within, isWithin};
 ghost use Rattle.ints.specs.Floor.{floorDiv, floorMod, ceilDiv};
-ghost use Rattle.ints.specs.Division.{answerOf, division, limit, InLimits, inLimits};
+ghost use Rattle.ints.specs.Division.{divisionAnswerOf, division, limit, DivisionLimits, divisionLimits};
 use reasons::Reason;
 
 /// What `divide` answers.
@@ -19,7 +19,7 @@ pub enum Division {
 /// n / d rounded towards the lower whole number, also when either is negative. Refused where d is 0, or n or d is
 /// larger in size than 4,000,000,000,000,000,000.
 pub fn divide(n: i64, d: i64) -> Division
-    ensures { λ r. ⌜ answerOf r ≡ division n d ⌝ }
+    ensures { λ r. ⌜ divisionAnswerOf r ≡ division n d ⌝ }
 {
     if in_limits(n, d) {
         Division::Quotient(floor_div(n, d))
@@ -30,7 +30,7 @@ pub fn divide(n: i64, d: i64) -> Division
 
 /// The quotient alone, for callers that have proved their arguments to be within the limits.
 pub fn quotient(n: i64, d: i64) -> i64
-    requires { ⌜ InLimits n d ⌝ }
+    requires { ⌜ DivisionLimits n d ⌝ }
     ensures { λ q. ⌜ q ≡ floorDiv n d ⌝ }
 {
     match divide(n, d) {
@@ -41,7 +41,7 @@ pub fn quotient(n: i64, d: i64) -> i64
 
 /// The quotient rounded towards the higher whole number.
 pub fn ceiling(n: i64, d: i64) -> i64
-    requires { ⌜ InLimits n d ⌝ }
+    requires { ⌜ DivisionLimits n d ⌝ }
     ensures { λ q. ⌜ q ≡ ceilDiv n d ⌝ }
 {
     -quotient(-n, d)
@@ -49,14 +49,14 @@ pub fn ceiling(n: i64, d: i64) -> i64
 
 /// What division leaves of n: 0, or of the divisor's sign and smaller in size.
 pub fn remainder(n: i64, d: i64) -> i64
-    requires { ⌜ InLimits n d ⌝ }
+    requires { ⌜ DivisionLimits n d ⌝ }
     ensures { λ r. ⌜ r ≡ floorMod n d ⌝ }
 {
     n - d * quotient(n, d)
 }
 
 fn in_limits(n: i64, d: i64) -> bool
-    ensures { λ r. ⌜ r ≡ inLimits n d ⌝ }
+    ensures { λ r. ⌜ r ≡ divisionLimits n d ⌝ }
 {
     if is_within(LIMIT, n) {
         if is_within(LIMIT, d) {

@@ -1,5 +1,5 @@
--- From groups to the whole job and back: a job has a solution exactly when each of its groups has one; and what the search for
--- the first group without a solution finds.
+-- From components to the whole job and back: a job has a solution exactly when each of its components has one; and what the search
+-- for the first component without a solution finds.
 use mathlib.Core.Path.{_≡_, refl, sym, _∙_, ap, ap₂}
 use mathlib.Core.Logic.{_↔_, _≢_, Iff·trans}
 use mathlib.Core.Bool.{cond}
@@ -26,7 +26,7 @@ use Rattle.jobs.specs.Family.{componentJob, fits}
 use Rattle.jobs.specs.Decide.{equal?}
 use Rattle.jobs.specs.Verdict.{firstWithout}
 use Rattle.jobs.specs.Demands.{SolvesGroup}
-use Rattle.jobs.proofs.Firsts.{first-iff, none-holds}
+use Rattle.jobs.proofs.FirstOf.{first-rising, none-holds}
 use Rattle.jobs.proofs.Solutions.{in-solutions, none-iff, best-is}
 use Rattle.jobs.proofs.Components.{chain-edge, joined-iff, rising-leads, lead-in}
 
@@ -47,7 +47,7 @@ pub between : {u v : Variable} {y z : ℤ} → u ≡ v → y ≡ z → Between v
 between p q b = rw (p, q) b
 
 module _ (j : Job) where
-  -- ---- the own job of a group
+  -- ---- the own job of a component
   module _ (l : ℕ) where
     pub component-length : length (componentJob j l .variables) ≡ length (j .variables)
     unfolding componentJob
@@ -78,7 +78,7 @@ module _ (j : Job) where
       λ (m, q). (m, eq-eqb (lowest j (e .left)) l q),
     )
 
-    -- ---- a solution of it is a solution of the group, as document 01 says
+    -- ---- a solution of it is a solution of the component, as document 01 says
     module _ (self : lowest j l ≡ l) (x : List ℤ) where
       inside-iff : (i : ℕ) → Joined j l i ↔ (lowest j i ≡ l)
       inside-iff i = (λ s. sym (joined-iff j l i .0 s) ∙ self, λ e. joined-iff j l i .1 (self ∙ sym e))
@@ -123,18 +123,18 @@ module _ (j : Job) where
       pub solves-iff : SolvesGroup j l x ↔ IsSolution (componentJob j l) x
       solves-iff = (solved, solves)
 
-  -- both variables of an equation are in one group
+  -- both variables of an equation are in one component
   pub one-group : (e : Equation) → e ∈ j .equations → lowest j (e .left) ≡ lowest j (e .right)
   one-group = each-iff (λ e. lowest j (e .left) ≡ lowest j (e .right)) (j .equations) noEquation .0 tied
     where
       tied : (k : ℕ) → k < length (j .equations) → lowest j (equation j k .left) ≡ lowest j (equation j k .right)
       tied k h = joined-iff j (equation j k .left) (equation j k .right) .0 (chain-edge k h (forth refl refl))
 
-  -- the part of a list that belongs to the group of l, and 0 elsewhere
+  -- the part of a list that belongs to the component of l, and 0 elsewhere
   abbrev pub partOf : ℕ → List ℤ → List ℤ
   partOf l x = table (λ i. cond (eqb (lowest j i) l) (number x i) (pos 0)) (length (j .variables))
 
-  -- the list that takes each variable's number from the list of its own group
+  -- the list that takes each variable's number from the list of its own component
   abbrev pub assembled : (ℕ → List ℤ) → List ℤ
   assembled f = table (λ i. number (f (lowest j i)) i) (length (j .variables))
 
@@ -152,7 +152,7 @@ module _ (j : Job) where
 
   -- ---- the theorem, where every equation names variables of the job
   module _ (named : (e : Equation) → e ∈ j .equations → (e .left < length (j .variables)) × (e .right < length (j .variables))) where
-    -- a solution of the job, set to 0 outside a group, is a solution of the group
+    -- a solution of the job, set to 0 outside a component, is a solution of the component
     pub part-solution : (l : ℕ) (x : List ℤ) → IsSolution j x → IsSolution (componentJob j l) (partOf l x)
     part-solution l x s = record {
       long = length-table _ (length (j .variables)) ∙ sym (component-length l);
@@ -173,7 +173,7 @@ module _ (j : Job) where
             same-value e (partOf l x) x (part-inside l x (e .left) (named e m .0) q) (part-inside l x (e .right) (named e m .1) (sym (one-group e m) ∙ q))
             ∙ holds-iff (j .equations) x .0 (s .holds) e m
 
-    -- solutions of all the groups make one of the job
+    -- solutions of all the components make one of the job
     pub assembled-solution : (f : ℕ → List ℤ) → ((l : ℕ) → l ∈ leads j → IsSolution (componentJob j l) (f l)) → IsSolution j (assembled f)
     assembled-solution f each = record {
       long = length-table _ (length (j .variables));
@@ -201,7 +201,7 @@ module _ (j : Job) where
       λ f. (assembled (λ l. best (componentJob j l)), assembled-solution (λ l. best (componentJob j l)) (λ l m. let (x, s) = f l m in best-is (componentJob j l) x s .solution)),
     )
 
--- ---- the first group without a solution
+-- ---- the first component without a solution
 pub fits-iff : (c : Job) → (fits c ≡ 0) ↔ ((x : List ℤ) → ¬ IsSolution c x)
 unfolding fits
 fits-iff c = none-iff c
@@ -220,4 +220,4 @@ all-fit j e l m = fits-some (componentJob j l) (none-without j e l m)
 pub without-iff : (j : Job) (l : ℕ) → (firstWithout j ≡ some l) ↔
     ((l ∈ leads j) × ((fits (componentJob j l) ≡ 0) × ((i : ℕ) → i ∈ leads j → i < l → fits (componentJob j i) ≢ 0)))
 unfolding firstWithout
-without-iff j l = first-iff (λ l. equal? (fits (componentJob j l)) 0) (λ a b h k. omega (arith, h, k)) (rising-leads j) l
+without-iff j l = first-rising (λ l. equal? (fits (componentJob j l)) 0) (λ a b h k. omega (arith, h, k)) (rising-leads j) l

@@ -1,5 +1,5 @@
 -- Two variables are joined exactly when they have the same lowest variable, which is joined to them and the lowest that is;
--- and groups are numbered in the order of their lowest variable.
+-- and components are numbered in the order of their lowest variable.
 use mathlib.Core.Path.{_≡_, refl, sym, _∙_, ap}
 use mathlib.Core.Logic.{_↔_, _⊎_, inl, inr, _≢_, Iff·trans}
 use mathlib.Core.Bool.{true, or-true}
@@ -39,7 +39,7 @@ module _ {j : Job} where
       turn (forth a b) = back a b
       turn (back a b) = forth a b
 
--- ---- one equation more: p and q, the lowest variables of the groups that it joins, become the lower of them
+-- ---- one equation more: p and q, the lowest variables of the components that it joins, become the lower of them
 pub merged-one : (p q i : ℕ) → (i ≡ p) ⊎ (i ≡ q) → merged p q i ≡ min p q
 merged-one p q i (inl e) = rw (eq-eqb i p e)
 merged-one p q i (inr e) = rw (eq-eqb i q e, or-true (eqb i p))
@@ -104,7 +104,7 @@ module _ (j : Job) where
       across to =
           chain-then (chain-back (longer (to (equation j m .left)))) (chain-then (chain-edge m (omega arith) (forth refl refl)) (longer (to (equation j m .right))))
 
-  -- each of these equations ties two variables of one group
+  -- each of these equations ties two variables of one component
   tied : (m k : ℕ) → k < m → lowestBy j m (equation j k .left) ≡ lowestBy j m (equation j k .right)
   unfolding lowestBy
   tied zero k h = absurd (omega arith)
@@ -161,7 +161,7 @@ module _ (j : Job) where
   unfolding lowest
   lowest-self = lowestBy-self (length (j .equations))
 
-  -- ---- groups, numbered in the order of their lowest variable
+  -- ---- components, numbered in the order of their lowest variable
   pub in-leads : (l : ℕ) → (l ∈ leads j) ↔ ((l < length (j .variables)) × (lowest j l ≡ l))
   unfolding leads
   in-leads l = Iff·trans (in-keep (λ i. eqb (lowest j i) i) (upTo (length (j .variables))) l) (to, from)
@@ -181,11 +181,11 @@ module _ (j : Job) where
   unfolding leads
   length-leads = omega (arith, length-keep (λ i. eqb (lowest j i) i) (upTo (length (j .variables))), length-upTo (length (j .variables)))
 
-  -- the lowest variable of every variable's group is among them
+  -- the lowest variable of every variable's component is among them
   pub lead-in : (i : ℕ) → i < length (j .variables) → lowest j i ∈ leads j
   lead-in i h = in-leads (lowest j i) .1 (omega (arith, lowest-le i), lowest-self i)
 
-  -- a variable whose lowest is that of group g is in group g
+  -- a variable whose lowest is that of component g is in component g
   component-of : (g i : ℕ) → g < componentCount j → lowest j i ≡ getD (leads j) g 0 → component j i ≡ g
   unfolding component
   component-of g i h e = rw e (rank-at rising-leads g h)
@@ -199,7 +199,7 @@ module _ (j : Job) where
       go : (g : ℕ) × (g < componentCount j) × (lowest j i ≡ getD (leads j) g 0) → (component j i < componentCount j) × (getD (leads j) (component j i) 0 ≡ lowest j i)
       go (g, l, e) = rw (component-of g i l e) (l, sym e)
 
-  -- a variable's group is one of them, and has its lowest variable
+  -- a variable's component is one of them, and has its lowest variable
   pub component-below : (i : ℕ) → i < length (j .variables) → component j i < componentCount j
   component-below i h = placed i h .0
 

@@ -1,5 +1,5 @@
--- Document 01's job M, with narrower bounds, by the sentences on groups, which do not compute: its groups, the lowest count of each, and
--- the fit-outs of the first, as worked out by hand.
+-- Document 01's job M, with narrower bounds, by the sentences on components, which do not compute: its components, the lowest count
+-- of each, and the fit-outs of the first, as worked out by hand.
 use mathlib.Core.Path.{_≡_, refl, sym, _∙_, ap}
 use mathlib.Core.Logic.{_↔_, _⊎_, inl, inr, Iff·trans, Iff·symm}
 use mathlib.Core.List.{List, [], _∷_}
@@ -9,8 +9,8 @@ use Rattle.ints.proofs.{ℤ, pos}
 use Rattle.lists.specs.Members.{_∈_, here, there}
 use Rattle.lists.specs.Table.{table}
 use Rattle.lists.proofs.Table.{table-at}
-use Rattle.jobs.specs.Bytes.{unsigned}
-use Rattle.jobs.specs.Job.{Job, jobOf}
+use Rattle.bytes.specs.LittleEndian.{unsigned}
+use Rattle.jobs.specs.Job.{jobOf}
 use Rattle.jobs.specs.Solution.{solutions}
 use Rattle.jobs.specs.Component.{IsLead, Numbered, lowest, leads, component}
 use Rattle.jobs.specs.Family.{componentJob}
@@ -36,7 +36,7 @@ computed : (table (component (jobOf narrowM)) 4 ≡ 0 ∷ 0 ∷ 0 ∷ 1 ∷ []) 
 unfolding jobOf unsigned component leads table
 computed = (refl, refl)
 
--- the ties join c0, c1 and c2, which are group 0; c3 is untied, and group 1
+-- the ties join c0, c1 and c2, which are component 0; c3 is untied, and component 1
 pub groups-of-M : Numbered (jobOf narrowM) 2 (λ i. getD (0 ∷ 0 ∷ 0 ∷ 1 ∷ []) i 0)
 unfolding jobOf unsigned leads table
 groups-of-M =
@@ -47,7 +47,7 @@ groups-of-M =
 pub leads-of-M : (l : ℕ) → IsLead (jobOf narrowM) l ↔ ((l ≡ 0) ⊎ (l ≡ 3))
 leads-of-M l = Iff·trans (lead-iff (jobOf narrowM) l) (in-two (computed .1) l)
 
--- the fit-outs of group 0, (2, 32, 0) and (5, 80, 2), with 0 for the count of the other group
+-- the fit-outs of component 0, (2, 32, 0) and (5, 80, 2), with 0 for the count of the other component
 abbrev first : List ℤ
 first = pos 2 ∷ pos 32 ∷ pos 0 ∷ pos 0 ∷ []
 

@@ -1,39 +1,45 @@
 -- The laws of jobs, in the order in which they rest on each other. Other crates go by Solutions, Components and Assembly, and
--- find in Faults when a job is turned away and in Lawful what is known of one that is not.
+-- find in Faults when a job is turned away and in Lawful that one that is not is lawful.
 
--- numbers in bytes, as the code reads them
-pub mod Reading
+-- the rows of the job that bytes say: `variable-of`, `equation-of`
+pub mod JobOf
 -- what a branch on a test says
 pub mod Branches
--- the first member of a list of which a statement holds
-pub mod Firsts
--- a walk through the rows of a job
-pub mod Walks
--- a reason is reported exactly when its rule is broken and none before it
+-- the first member of a list of which a statement holds: `first-iff`
+pub mod FirstOf
+-- the checks of the rows, row by row
+pub mod RowChecks
+-- a reason is reported exactly when its rule is broken and none before it (`reported-iff`), a job accepted exactly when no rule is
+-- (`sound-iff`)
 pub mod Faults
--- what is known of a job that no check turns away
+-- a job that no check turns away is lawful: `lawful`
 pub mod Lawful
--- the solutions of a job, in order, and the best of them
+-- a job with other bounds: what of it stays
+pub mod WithBounds
+-- the exhaustive list has just the solutions (`in-solutions`), rising; "better" is a strict total order (`better-trans`,
+-- `better-compared`); the best is a solution and better than every other, and nothing else is (`best-is`, `best-only`)
 pub mod Solutions
--- groups: what joins variables, and how groups are numbered
+-- two variables are joined exactly when their lowest joined variables are the same (`joined-iff`, `lowest-least`); an equation
+-- joins two sets exactly when they differ (`joins-iff`); components are numbered in their order (`component-at`, `component-lead`)
 pub mod Components
--- groups by document 01's sentence, and by the functions that compute
+-- components by document 01's sentence, and by the functions that compute: `lead-iff`, `component-numbers`; there is one number
+-- of them and one numbering (`groups-are`, `group-is`)
 pub mod Numbering
--- from groups to the whole job and back
+-- from components to the whole job and back: `solves-iff`, `part-solution`, `assembled-solution`; the job has a solution exactly
+-- when each component has one (`some-iff`)
 pub mod Assembly
--- where the best stands among the solutions
-pub mod Chosen
--- numbers written in bytes read back
-pub mod Writing
--- where the fields of a sheet stand
-pub mod Fields
--- the definitions keep the demands, as far as that needs no families
-pub mod Promises
--- verdict and sheet, case by case
+-- where the best stands among the solutions: `chosen-at`
+pub mod PlaceOfBest
+-- where the fields of a sheet stand, and that they read back (`laidOut-back`); findings that agree are laid out alike
+-- (`same-layout`)
+pub mod SheetFields
+-- the definitions keep the demands (`turns-away`, `cannot-be-bettered`; of the second all but the families, `gives-fits`)
+pub mod DemandsHold
+-- verdict and sheet, case by case, from what the job check answers: `as-checked`, `too-short`, `no-fit`, `best-fit`
 pub mod Outcomes
--- of a list longer than any lawful job the first part is answered as the whole
-pub mod Longer
+-- of a list longer than any lawful job the first part is answered as the whole: `longer-same`
+pub mod LongInput
 -- the sham planners of document 01, each refused by the demand that is named beside it
 pub mod Shams
--- job M by the sentences on groups
+-- job M by the sentences on components: `groups-of-M`, `leads-of-M`, `fits-of-M`
 pub mod Examples

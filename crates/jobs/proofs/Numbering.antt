@@ -1,5 +1,5 @@
--- Groups as document 01 has them and as the definitions compute them: `leads` has just the lowest variable of each group,
--- `component` numbers the groups in their order, and no other number of groups and no other numbering does.
+-- Components as document 01 has them and as the definitions compute them: `leads` has just the lowest variable of each component,
+-- `component` numbers the components in their order, and no other number of components and no other numbering does.
 use mathlib.Core.Path.{_≡_, sym, _∙_, ap, subst}
 use mathlib.Core.Logic.{_↔_}
 use mathlib.Core.List.{List}
@@ -13,9 +13,10 @@ use Rattle.lists.proofs.Members.{member-at}
 use Rattle.lists.proofs.Rising.{same-members, rising-at}
 use Rattle.lists.proofs.Table.{in-table, rising-table, length-table, table-at, in-upTo, rising-upTo, length-upTo}
 use Rattle.jobs.specs.Job.{Job}
-use Rattle.jobs.specs.Component.{IsLead, Numbered, lowest, leads, componentCount, component, sheetLength}
+use Rattle.jobs.specs.SheetOffsets.{sheetLength}
+use Rattle.jobs.specs.Component.{IsLead, Numbered, lowest, leads, componentCount, component}
 use Rattle.jobs.specs.Decide.{below?}
-use Rattle.jobs.specs.Table.{ShortFor}
+use Rattle.jobs.specs.ReasonTable.{ShortFor}
 use Rattle.jobs.proofs.Components.{lowest-joined, lowest-least, lowest-le, in-leads, rising-leads, component-at, component-below, component-lead, component-iff}
 
 module _ (j : Job) where
@@ -28,7 +29,7 @@ module _ (j : Job) where
     λ m. let (b, e) = in-leads j l .0 m in record { is-variable = b; least = λ i s. omega (arith, lowest-least j l i s, e) },
   )
 
-  -- the group with a number, by its lowest variable
+  -- the component with a number, by its lowest variable
   abbrev lead : ℕ → ℕ
   lead k = getD (leads j) k 0
 
@@ -42,7 +43,7 @@ module _ (j : Job) where
     each = λ k. (λ h. (lead k, (lead-at k h .is-variable, component-at j k h)), λ (i, h). subst (λ g. g < componentCount j) (h .1) (component-below j i (h .0)));
   }
     where
-      -- a lowest variable stands at the place of its group's number
+      -- a lowest variable stands at the place of its component's number
       own : (l : ℕ) → IsLead j l → lead (component j l) ≡ l
       own l h = component-lead j l (h .is-variable) ∙ in-leads j l .0 (lead-iff l .0 h) .1
 
@@ -93,7 +94,7 @@ module _ (j : Job) where
         ∙ ap (λ ks. getD ks c 0) numbers-are
         ∙ table-at (λ k. k) g c 0 (omega (arith, b, groups-are))
 
-  -- what agrees with the definitions numbers the groups too
+  -- what agrees with the definitions numbers the components too
   pub numbered-by : (g : ℕ) (group : ℕ → ℕ) → g ≡ componentCount j → ((i : ℕ) → i < length (j .variables) → group i ≡ component j i) → Numbered j g group
   numbered-by g group e f = record {
     together = λ i k h l. (λ q. component-iff j i k h l .0 (sym (f i h) ∙ q ∙ f k l), λ s. f i h ∙ component-iff j i k h l .1 s ∙ sym (f k l));

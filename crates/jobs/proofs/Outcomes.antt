@@ -9,21 +9,24 @@ use Rattle.reasons.specs.declared.Reason.{Reason}
 use Rattle.reasons.specs.declared.Reason.the-variants.{ShortJob, WrongMark, TooMany, WrongHeader, ShortArea}
 use Rattle.jobs.specs.Job.{Job, jobOf}
 use Rattle.jobs.specs.Solution.{objective, best}
-use Rattle.jobs.specs.Component.{sheetLength}
-use Rattle.jobs.specs.Faults.{broken?, rowChecks, checks, noArea?, accepted, refused as turned, answered, checked}
+use Rattle.jobs.specs.SheetOffsets.{sheetLength}
+use Rattle.jobs.specs.Findings.{findings}
+use Rattle.jobs.specs.ReasonTable.{rowChecks, checks}
+use Rattle.jobs.specs.Faults.{broken?, noArea?, accepted, refused as turned, answered, checked}
 use Rattle.jobs.specs.Verdict.{planned, noFit, refused, firstWithout, outcome, short?, verdict}
-use Rattle.jobs.specs.Sheet.{laidOut, sheet}
-use Rattle.jobs.proofs.Firsts.{first-here}
+use Rattle.jobs.specs.SheetLayout.{laidOut}
+use Rattle.jobs.specs.Sheet.{sheet}
+use Rattle.jobs.proofs.FirstOf.{first-here}
 use Rattle.jobs.proofs.Faults.{fault-checked, fault-short, fault-none, accepted-none, refused-some}
-use Rattle.jobs.proofs.Fields.{if-planned, if-noFit, if-refused}
-use Rattle.jobs.proofs.Promises.{fault, verdict-is}
+use Rattle.jobs.proofs.SheetFields.{if-planned, if-noFit, if-refused}
+use Rattle.jobs.proofs.DemandsHold.{fault, verdict-is}
 
 module _ (s area : List ℕ) where
   abbrev j : Job
   j = jobOf s
 
-  by-fault : {o : Option Reason} → fault s area ≡ o → verdict s area ≡ outcome j o (firstWithout j)
-  by-fault e = verdict-is s area ∙ ap (λ o. outcome j o (firstWithout j)) e
+  by-fault : {o : Option Reason} → fault s area ≡ o → verdict s area ≡ outcome o (firstWithout j) (objective j (best j))
+  by-fault e = verdict-is s area ∙ ap (λ o. outcome o (firstWithout j) (objective j (best j))) e
 
   -- the check refuses
   pub as-checked : (p q : ℕ) → checked s ≡ turned p q → (verdict s area ≡ refused p q) × (sheet s area ≡ area)
@@ -46,12 +49,11 @@ module _ (s area : List ℕ) where
       sound : fault s area ≡ none
       sound = fault-none s (short? j area) (accepted-none s ok) (λ h. omega (arith, h, room))
 
-      -- a group has no solution
+      -- a component has no solution
       pub no-fit : (l : ℕ) → firstWithout (jobOf s) ≡ some l → (verdict s area ≡ noFit l) × (sheet s area ≡ area)
-      no-fit l e = let v : verdict s area ≡ noFit l = by-fault sound ∙ ap (outcome j none) e in (v, if-noFit s area v)
+      no-fit l e = let v : verdict s area ≡ noFit l = by-fault sound ∙ ap (λ k. outcome none k (objective j (best j))) e in (v, if-noFit s area v)
 
       -- each has one
       pub best-fit : firstWithout (jobOf s) ≡ none →
-          let w = objective (jobOf s) (best (jobOf s)) in
-          (verdict s area ≡ planned w) × (sheet s area ≡ laidOut (jobOf s) (best (jobOf s)) w ++ drop (sheetLength (jobOf s)) area)
-      best-fit e = let v : verdict s area ≡ planned (objective j (best j)) = by-fault sound ∙ ap (outcome j none) e in (v, if-planned s area v)
+          (verdict s area ≡ planned (objective (jobOf s) (best (jobOf s)))) × (sheet s area ≡ laidOut (findings (jobOf s)) ++ drop (length (laidOut (findings (jobOf s)))) area)
+      best-fit e = let v : verdict s area ≡ planned (objective j (best j)) = by-fault sound ∙ ap (λ k. outcome none k (objective j (best j))) e in (v, if-planned s area v)

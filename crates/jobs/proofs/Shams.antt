@@ -1,11 +1,11 @@
 -- Document 01, "Wrong plans on the frame": the sham planners, nearest to passing first, and of each that it breaks the demand that
--- is named beside it; and three more that break demand 2: groups numbered from 1, two groups with one number, and a refusal for
+-- is named beside it; and three more that break demand 2: components numbered from 1, two with one number, and a refusal for
 -- everybody. Where a theorem is about one job, that job alone refuses the sham.
 use mathlib.Core.Path.{_≡_, refl, sym, _∙_, ap}
 use mathlib.Core.Logic.{_≢_, ⊎-elim}
 use mathlib.Core.Option.{none, some, Option·none-ne-some, Option·some-injective}
 use mathlib.Core.List.{List, [], _∷_, _++_, map}
-use Prim.Native.Nat.{ℕ, _+_, _*_, _≤_, _<_}
+use Prim.Native.Nat.{ℕ, _≤_, _<_}
 use lib.ListN.{length, take}
 use Rattle.reasons.specs.declared.Reason.{Reason}
 use Rattle.reasons.specs.Numbers.{numberOf, rowOf}
@@ -14,22 +14,23 @@ use Rattle.lists.specs.Table.{table}
 use Rattle.lists.proofs.Rising.{rising-distinct, same-length}
 use Rattle.lists.proofs.Table.{in-table, rising-table, length-table, table-at}
 use Rattle.lists.proofs.Lexicographic.{lower-asym}
-use Rattle.jobs.specs.Bytes.{unsigned}
+use Rattle.bytes.specs.LittleEndian.{unsigned}
 use Rattle.jobs.specs.Job.{Job, jobOf, variable}
 use Rattle.jobs.specs.Solution.{number, IsSolution, best}
-use Rattle.jobs.specs.Component.{Joined, IsLead, lowest, leads, sheetLength}
+use Rattle.jobs.specs.SheetOffsets.{sheetLength}
+use Rattle.jobs.specs.Component.{Joined, IsLead, lowest, leads}
 use Rattle.jobs.specs.Family.{componentJob, fits, base}
 use Rattle.jobs.specs.Faults.{accepted, refused as turned, checked}
 use Rattle.jobs.specs.Verdict.{planned, noFit, refused, firstWithout, short?}
-use Rattle.jobs.specs.Sheet.{answerMark}
+use Rattle.jobs.specs.SheetLayout.{answerMark}
 use Rattle.jobs.specs.Demands.{numberOn, groupOn, fitsOn, numbersOn, memberOn, TurnsAway, FamilyOn, NotTurnedAway, GivesFits, CannotBeBettered}
-use Rattle.jobs.specs.Vectors.{header, count, difference}
+use Rattle.jobs.specs.JobBytes.{plus, header, count, plain, difference}
 use Rattle.jobs.proofs.Faults.{fault-checked, fault-none, accepted-none, refused-some}
 use Rattle.jobs.proofs.Solutions.{rising-solutions, in-solutions, best-only}
 use Rattle.jobs.proofs.Components.{joined-iff, in-leads}
 use Rattle.jobs.proofs.Numbering.{lead-iff}
 use Rattle.jobs.proofs.Assembly.{solves-iff}
-use Rattle.jobs.proofs.Promises.{fault, reported}
+use Rattle.jobs.proofs.DemandsHold.{fault, reported}
 
 -- ---- jobs that refuse them
 abbrev pub noCounts : List ℕ
@@ -37,20 +38,20 @@ noCounts = header 0 0 24 24
 
 -- 0..1, weight 1
 abbrev pub oneCount : List ℕ
-oneCount = header 1 0 36 36 ++ count 0 1 1
+oneCount = header 1 0 36 36 ++ count (plus 0) (plus 1) (plus 1)
 
 -- two such counts, untied
 abbrev pub twoCounts : List ℕ
-twoCounts = header 2 0 48 48 ++ count 0 1 1 ++ count 0 1 1
+twoCounts = header 2 0 48 48 ++ count (plus 0) (plus 1) (plus 1) ++ count (plus 0) (plus 1) (plus 1)
 
--- 0..1, and a second group of 0..3 and 0..3 with c1 − c2 = 1
+-- 0..1, and a second component of 0..3 and 0..3 with c1 − c2 = 1
 abbrev pub twoGroups : List ℕ
-twoGroups = header 3 1 60 80 ++ count 0 1 0 ++ count 0 3 0 ++ count 0 3 0 ++ difference 1 2 1
+twoGroups = header 3 1 60 80 ++ plain 1 ++ plain 3 ++ plain 3 ++ difference 1 2 1
 
 abbrev smallJobs : List (List ℕ)
 smallJobs = noCounts ∷ oneCount ∷ twoCounts ∷ twoGroups ∷ []
 
--- what refuses a sham is the demand and not the job: the check accepts each of them, and each of its groups has a fit-out
+-- what refuses a sham is the demand and not the job: the check accepts each of them, and each of its components has a fit-out
 small : (map checked smallJobs ≡ accepted ∷ accepted ∷ accepted ∷ accepted ∷ []) ×
     (map (λ s. firstWithout (jobOf s)) smallJobs ≡ none ∷ none ∷ none ∷ none ∷ [])
 unfolding checked firstWithout jobOf
@@ -80,7 +81,7 @@ first-group-only-ties area after w f d = broken (f 1 (omega arith) (apart 1 (ome
     broken : {x y : ℤ} → x ≡ pos 0 → y ≡ pos 0 → pos 1 *ℤ x +ℤ negsuc 0 *ℤ y ≢ pos 1
     broken {x} {y} p q e = lin (x ∷ y ∷ []) (p & q & e) (search facts depth 20) (omega arith)
 
--- the two counts of `twoCounts` are in groups of their own
+-- the two counts of `twoCounts` are in components of their own
 untied : ¬ Joined (jobOf twoCounts) 0 1
 unfolding jobOf unsigned table lowest
 untied s = omega (arith, joined-iff (jobOf twoCounts) 0 1 .0 s)
@@ -118,7 +119,7 @@ fits-are-fixed s area after w d l m =
     let j = jobOf s in
     family-fits (in-leads j l .0 (lead-iff j l .0 m) .1) (d .given w refl .1 .1 .families l m)
 
--- ---- groups numbered from 1: the first has number 0, where there is a count at all
+-- ---- components numbered from 1: the first has number 0, where there is a count at all
 pub numbered-from-one : (s area after : List ℕ) (w : ℤ) → 0 < length (jobOf s .variables) →
     ((i : ℕ) → i < length (jobOf s .variables) → groupOn after i ≢ 0) → ¬ GivesFits s area (planned w) after
 numbered-from-one s area after w any from d =
@@ -126,7 +127,7 @@ numbered-from-one s area after w any from d =
     let (i, h) = f .each 0 .0 (omega (arith, f .each (groupOn after 0) .1 (0, (any, refl)))) in
     from i (h .0) (h .1)
 
--- ---- two groups given one number: counts that are not joined have two
+-- ---- two components given one number: counts that are not joined have two
 pub one-number : (s area after : List ℕ) (w : ℤ) (i k : ℕ) → i < length (jobOf s .variables) → k < length (jobOf s .variables) →
     ¬ Joined (jobOf s) i k → groupOn after i ≡ groupOn after k → ¬ GivesFits s area (planned w) after
 one-number s area after w i k h l n e d = n (d .given w refl .1 .0 .groups .together i k h l .0 e)

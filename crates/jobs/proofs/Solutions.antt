@@ -22,7 +22,8 @@ use Rattle.lists.proofs.Range.{in-range, rising-range}
 use Rattle.lists.proofs.Lexicographic.{lower-asym, lower-trans, Compared, lower, equal, higher, compared}
 use Rattle.lists.proofs.Best.{bestOf-best, is-bestOf, beats-asym, beats-trans, beats-compared}
 use Rattle.jobs.specs.Job.{Variable, Equation, Job, noVariable, noEquation, equation}
-use Rattle.jobs.specs.Solution.{Earlier, Optimal, number, value, IsSolution, fronts, box, solutions, objective, Better, best}
+use Rattle.jobs.specs.TieBreak.{Earlier}
+use Rattle.jobs.specs.Solution.{Optimal, number, value, IsSolution, fronts, box, solutions, objective, Better, best}
 
 -- ---- the box: the lists within the bounds, in lexicographic order
 in-fronts : (xs : List ℤ) (rest : List (List ℤ)) (z : List ℤ) → z ∈ fronts xs rest ↔ ((x : ℤ) × (ys : List ℤ) × (x ∈ xs) × (ys ∈ rest) × (z ≡ x ∷ ys))
@@ -126,9 +127,6 @@ none-iff j = Iff·trans (no-members (solutions j)) (λ f x s. f x (in-solutions 
 -- ---- `Better j` is a strict total order on the lists of one length
 pub better-asym : (j : Job) (x y : List ℤ) → Better j x y → Better j y x → ⊥
 better-asym j x y = beats-asym (objective j) lower-asym
-
-pub better-irreflexive : (j : Job) (x : List ℤ) → ¬ Better j x x
-better-irreflexive j x h = better-asym j x x h h
 
 pub better-trans : (j : Job) (x y z : List ℤ) → Better j x y → Better j y z → Better j x z
 better-trans j x y z = beats-trans (objective j) lower-trans

@@ -4,7 +4,7 @@ use mathlib.Core.Path.{_≡_}
 use mathlib.Core.Logic.{_↔_}
 use mathlib.Core.Bool.{cond, _||_}
 use mathlib.Core.List.{List}
-use Prim.Native.Nat.{ℕ, zero, suc, _+_, _*_, _≤_, _<_, min}
+use Prim.Native.Nat.{ℕ, zero, suc, _≤_, _<_, min}
 use lib.Dec.{eqb, ltb}
 use lib.ListN.{length}
 use Rattle.lists.specs.Keep.{keep}
@@ -78,10 +78,3 @@ componentCount j = length (leads j)
 unfoldable pub component : Job → ℕ → ℕ
 unfolding keep leads lowest
 component j i = length (keep (λ l. ltb l (lowest j i)) (leads j))
-
--- "24 + 16n", where the group rows of a sheet begin, and "24 + 16n + 16g", where they end
-abbrev pub groupRows : Job → ℕ
-groupRows j = 24 + 16 * length (j .variables)
-
-abbrev pub sheetLength : Job → ℕ
-sheetLength j = groupRows j + 16 * componentCount j

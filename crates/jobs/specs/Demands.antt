@@ -10,13 +10,14 @@ use lib.ListN.{length, take, drop}
 use lib.IntN.{ℤ, pos, _+ℤ_, _*ℤ_}
 use lib.Signed.{_≤ℤ_, _<ℤ_}
 use Rattle.lists.specs.Table.{table}
-use Rattle.jobs.specs.Bytes.{u16, u32, i32, i64}
+use Rattle.bytes.specs.LittleEndian.{u16, u32, i32, i64}
 use Rattle.jobs.specs.Job.{Job, jobOf, variable, equation}
 use Rattle.jobs.specs.Solution.{number, value, IsSolution, objective, Optimal}
-use Rattle.jobs.specs.Component.{Joined, IsLead, Numbered, groupRows}
-use Rattle.jobs.specs.Table.{ShortFor, Reported}
+use Rattle.jobs.specs.SheetOffsets.{groupRowsAt}
+use Rattle.jobs.specs.Component.{Joined, IsLead, Numbered}
+use Rattle.jobs.specs.ReasonTable.{ShortFor, Reported}
 use Rattle.jobs.specs.Verdict.{Verdict, planned, noFit, refused}
-use Rattle.jobs.specs.Sheet.{answerMark}
+use Rattle.jobs.specs.SheetLayout.{answerMark}
 
 -- ---- what stands on a sheet: document 01, "The sheet"; j says how many rows there are
 
@@ -39,13 +40,13 @@ abbrev pub zeroOn : List ℕ → ℕ → ℕ
 zeroOn after i = u16 after (24 + 16 * i + 14)
 
 abbrev pub fitsOn : Job → List ℕ → ℕ → ℕ
-fitsOn j after g = u32 after (groupRows j + 16 * g)
+fitsOn j after g = u32 after (groupRowsAt j + 16 * g)
 
 abbrev pub chosenOn : Job → List ℕ → ℕ → ℕ
-chosenOn j after g = u32 after (groupRows j + 16 * g + 4)
+chosenOn j after g = u32 after (groupRowsAt j + 16 * g + 4)
 
 abbrev pub gainOn : Job → List ℕ → ℕ → ℤ
-gainOn j after g = i64 after (groupRows j + 16 * g + 8)
+gainOn j after g = i64 after (groupRowsAt j + 16 * g + 8)
 
 -- "The fit-out on a sheet is its n number fields."
 abbrev pub numbersOn : Job → List ℕ → List ℤ
@@ -65,7 +66,7 @@ pub record TurnsAway (s area : List ℕ) (v : Verdict) (after : List ℕ) : Type
   pub exactly : (reason row : ℕ) → (v ≡ refused reason row) ↔ Reported (ShortFor (jobOf s) area) s reason row
   pub untouched : (reason row : ℕ) → v ≡ refused reason row → after ≡ area
   pub inside : length after ≡ length area
-  pub rest : (g : ℕ) (group : ℕ → ℕ) → Numbered (jobOf s) g group → drop (groupRows (jobOf s) + 16 * g) after ≡ drop (groupRows (jobOf s) + 16 * g) area
+  pub rest : (g : ℕ) (group : ℕ → ℕ) → Numbered (jobOf s) g group → drop (groupRowsAt (jobOf s) + 16 * g) after ≡ drop (groupRowsAt (jobOf s) + 16 * g) area
 
 -- ---- demand 2, the installer
 
@@ -94,7 +95,7 @@ pub record LaidOut (j : Job) (after : List ℕ) : Type 0 where
   pub mark : take 4 after ≡ answerMark
   pub variables : u16 after 4 ≡ length (j .variables)
   pub variable-rows : u32 after 8 ≡ 24
-  pub group-rows : u32 after 12 ≡ groupRows j
+  pub group-rows : u32 after 12 ≡ groupRowsAt j
   pub groups : Numbered j (u16 after 6) (groupOn after)
   pub zero : (i : ℕ) → i < length (j .variables) → zeroOn after i ≡ 0
 

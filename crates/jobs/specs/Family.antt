@@ -8,6 +8,7 @@ use lib.IntN.{ℤ, pos, _-ℤ_}
 use Rattle.ints.specs.Equal.{isEqual}
 use Rattle.lists.specs.Keep.{keep, place}
 use Rattle.lists.specs.Table.{table}
+use Rattle.runs.specs.declared.Run.{Run}
 use Rattle.jobs.specs.Job.{Job, variable, noVariable}
 use Rattle.jobs.specs.Solution.{number, solutions, objective, best}
 use Rattle.jobs.specs.Component.{lowest, home}
@@ -59,3 +60,8 @@ chosen c = place (agree (best c)) (solutions c)
 unfoldable pub slope : Job → ℤ
 unfolding objective step
 slope c = objective c (step c)
+
+-- base and step at variable i, and the fits of its group, as a run: its number at k is first + step·k, for k below many
+unfoldable pub familyRun : Job → ℕ → Run
+unfolding base step fits componentJob lowest
+familyRun j i = let c = componentJob j (lowest j i) in record { first = number (base c) i; step = number (step c) i; many = fits c }

@@ -2,7 +2,7 @@
 use mathlib.Core.Path.{_≡_}
 use mathlib.Core.Logic.{_↔_}
 use mathlib.Core.Option.{Option, none, some}
-use mathlib.Core.List.{List, [], _∷_, _++_, flatMap}
+use mathlib.Core.List.{List}
 use Prim.Native.Nat.{ℕ, _+_, _*_}
 use lib.ListN.{length, take}
 use Rattle.reasons.specs.declared.Reason.{Reason}
@@ -10,19 +10,18 @@ use Rattle.reasons.specs.declared.Reason.the-variants.{ShortJob, WrongMark, Too
 use Rattle.reasons.specs.Numbers.{numberOf, rowOf}
 use Rattle.jobs.specs.declared.Checked.{Checked}
 use Rattle.jobs.specs.declared.Checked.the-variants.{Accepted, Refused}
-use Rattle.lists.specs.Table.{table, upTo}
 use Rattle.runs.specs.Run.{bound}
-use Rattle.runs.specs.Workings.{inLimits}
+use Rattle.runs.specs.Workings.{carryLimits}
 use Rattle.runs.proofs.Refusals.{in-limits-iff}
-use Rattle.jobs.specs.Bytes.{unsigned, u32}
+use Rattle.bytes.specs.LittleEndian.{u32}
 use Rattle.jobs.specs.Decide.{tested, below?, atMost?, equal?, within?, by, both, either, not?, list?, firstOf}
-use Rattle.jobs.specs.Job.{Variable, Equation, form, variableCount, equationCount, equationRow, variableAt, equationAt}
-use Rattle.jobs.specs.Table.{mark, Header, InRange, Coefficients, Misnamed, Broken, NoArea, Reported}
+use Rattle.jobs.specs.Job.{Variable, Equation, jobOf, form, variableCount, equationCount, equationRowAt, variable, equation}
+use Rattle.jobs.specs.ReasonTable.{mark, Header, InRange, Coefficients, Misnamed, Broken, NoArea, checks, Reported}
 
 -- ---- each condition of the table can be decided
 abbrev pub header? : (s : List ℕ) → Dec (Header s)
 header? s =
-    let whole = equationRow (variableCount s) (equationCount s) in
+    let whole = equationRowAt (variableCount s) (equationCount s) in
     by (
       λ h. record { variables = h .0; equations = h .1 .0; length-field = h .1 .1 .0; zeros = h .1 .1 .1 .0; real-length = h .1 .1 .1 .1 },
       λ h. (h .variables, (h .equations, (h .length-field, (h .zeros, h .real-length)))),
@@ -35,7 +34,7 @@ inRange? v =
     (both (within? bound (v .low)) (both (within? bound (v .high)) (within? 1000000 (v .weight))))
 
 abbrev pub coefficients? : (e : Equation) → Dec (Coefficients e)
-coefficients? e = tested (inLimits (form e)) (in-limits-iff (form e))
+coefficients? e = tested (carryLimits (form e)) (in-limits-iff (form e))
 
 abbrev pub misnamed? : (n : ℕ) (e : Equation) → Dec (Misnamed n e)
 misnamed? n e = either (atMost? n (e .left)) (either (atMost? n (e .right)) (equal? (e .left) (e .right)))
@@ -45,30 +44,15 @@ broken? d s ShortJob = below? (length s) 24
 broken? d s WrongMark = not? (list? (take 4 s) mark)
 broken? d s TooMany = either (below? 256 (variableCount s)) (below? 1024 (equationCount s))
 broken? d s WrongHeader = not? (header? s)
-broken? d s (VariableRange i) = both (below? i (variableCount s)) (not? (inRange? (variableAt s i)))
-broken? d s (EquationVariables k) = both (below? k (equationCount s)) (misnamed? (variableCount s) (equationAt s k))
-broken? d s (EquationRange k) = both (below? k (equationCount s)) (not? (coefficients? (equationAt s k)))
+broken? d s (VariableRange i) = both (below? i (variableCount s)) (not? (inRange? (variable (jobOf s) i)))
+broken? d s (EquationVariables k) = both (below? k (equationCount s)) (misnamed? (variableCount s) (equation (jobOf s) k))
+broken? d s (EquationRange k) = both (below? k (equationCount s)) (not? (coefficients? (equation (jobOf s) k)))
 broken? d s ShortArea = d
 broken? d s WrongArgument = no (λ h. h)
 
--- ---- the checks in the order of the table: all variables' rows, then the equations' rows in turn
-abbrev pub headerChecks : List Reason
-headerChecks = ShortJob ∷ WrongMark ∷ TooMany ∷ WrongHeader ∷ []
-
-abbrev pub equationChecks : ℕ → List Reason
-equationChecks k = EquationVariables k ∷ EquationRange k ∷ []
-
-unfoldable pub rowChecks : List ℕ → List Reason
-unfolding table flatMap unsigned
-rowChecks s = table VariableRange (variableCount s) ++ flatMap equationChecks (upTo (equationCount s))
-
-unfoldable pub checks : List ℕ → List Reason
-unfolding rowChecks
-checks s = headerChecks ++ (rowChecks s ++ ShortArea ∷ [])
-
--- the first of them that is broken (proofs/Faults.antt: exactly the one that is broken and none before it)
+-- the first of the checks that is broken (proofs/Faults.antt: exactly the one that `IsFirst`)
 unfoldable pub firstBroken : {short : Type 0} → Dec short → List ℕ → Option Reason
-unfolding firstOf checks
+unfolding firstOf checks jobOf
 firstBroken d s = firstOf (broken? d s) (checks s)
 
 -- ---- what the job check answers: "The job check reports as the planner does through reason 7, and otherwise accepts."

@@ -1,12 +1,13 @@
 -- Document 01, "The job": what the bytes of a job say. Every list of bytes says something; whether it is a job that may be
--- planned is a matter of the table (Table.antt).
+-- planned is a matter of the table (ReasonTable.antt).
+use mathlib.Core.Path.{_≡_}
 use mathlib.Core.List.{List}
-use Prim.Native.Nat.{ℕ, _+_, _*_}
-use lib.ListN.{getD}
+use Prim.Native.Nat.{ℕ, _+_, _*_, _≤_}
+use lib.ListN.{length, getD}
 use lib.IntN.{pos}
 use Rattle.lists.specs.Table.{table}
 use Rattle.runs.specs.declared.Equation.{Equation as Form}
-use Rattle.jobs.specs.Bytes.{u16, i32, i64}
+use Rattle.bytes.specs.LittleEndian.{u16, i32, i64}
 -- the program's structs: whole numbers in ℤ, numbers of variables in ℕ
 pub use Rattle.jobs.specs.declared.Variable.{Variable}
 pub use Rattle.jobs.specs.declared.Equation.{Equation}
@@ -24,22 +25,28 @@ abbrev pub equationCount : List ℕ → ℕ
 equationCount s = u16 s 6
 
 -- where the rows begin, and where the last of them ends
-abbrev pub variableRow : ℕ → ℕ
-variableRow i = 24 + 12 * i
+abbrev pub variableRowAt : ℕ → ℕ
+variableRowAt i = 24 + 12 * i
 
-abbrev pub equationRow : ℕ → ℕ → ℕ
-equationRow n k = 24 + 12 * n + 20 * k
+abbrev pub equationRowAt : ℕ → ℕ → ℕ
+equationRowAt n k = 24 + 12 * n + 20 * k
+
+-- the numbers of rows within their limits, and the bytes just as many as the rows take: then every row can be read
+pub record RowsInside (s : List ℕ) : Type 0 where
+  pub variables : variableCount s ≤ 256
+  pub equations : equationCount s ≤ 1024
+  pub whole : length s ≡ equationRowAt (variableCount s) (equationCount s)
 
 -- "Count row, 12 bytes: low i32, high i32, weight i32."
 abbrev pub variableAt : List ℕ → ℕ → Variable
-variableAt s i = record { low = i32 s (variableRow i); high = i32 s (variableRow i + 4); weight = i32 s (variableRow i + 8) }
+variableAt s i = record { low = i32 s (variableRowAt i); high = i32 s (variableRowAt i + 4); weight = i32 s (variableRowAt i + 8) }
 
 -- "Equation row, 20 bytes: left count u16, right count u16, a i32, b i32, c i64."
 abbrev pub equationFrom : List ℕ → ℕ → Equation
 equationFrom s at = record { left = u16 s at; right = u16 s (at + 2); a = i32 s (at + 4); b = i32 s (at + 8); c = i64 s (at + 12) }
 
 abbrev pub equationAt : List ℕ → ℕ → Equation
-equationAt s k = equationFrom s (equationRow (variableCount s) k)
+equationAt s k = equationFrom s (equationRowAt (variableCount s) k)
 
 -- a, b and c alone, as the carrying working takes them
 abbrev pub form : Equation → Form

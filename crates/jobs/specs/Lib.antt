@@ -1,29 +1,39 @@
 -- What a job is, when it is turned away, what a plan of it is, and what is demanded of one. Read in this order. To be believed is
--- all of it but the decisions in Decide and Faults, Method, and Vectors, which is theorems.
+-- all of it but the decisions in Decide and Faults, Lawful, Bounds, JobBytes, and Vectors, which is theorems.
 
--- numbers in bytes
-pub mod Bytes
 -- the bytes of a job as variables and equations
 pub mod Job
+-- of two fit-outs of equal worth, which comes first
+pub mod TieBreak
 -- fit-outs, their worth, and the best of them
 pub mod Solution
 -- groups
 pub mod Component
 -- what is read off the fit-outs of one group
 pub mod Family
--- the table of reasons
-pub mod Table
+-- all that a report shows
+pub mod Findings
+-- where the parts of a sheet stand
+pub mod SheetOffsets
+-- the table of reasons, and its order
+pub mod ReasonTable
 -- statements that can be decided
 pub mod Decide
 -- the first reason that applies, and the answer of the job check
 pub mod Faults
 -- the outcome of a plan
 pub mod Verdict
--- the answer area after it
+-- the layout of the sheet
+pub mod SheetLayout
+-- the answer area after a plan
 pub mod Sheet
 -- the three demands
 pub mod Demands
--- what inner functions promise each other
-pub mod Method
+-- a job that the table does not turn away, as inner functions ask for it
+pub mod Lawful
+-- a job with other bounds, likewise
+pub mod Bounds
+-- the bytes of small jobs
+pub mod JobBytes
 -- small jobs through all of them
 pub mod Vectors

@@ -10,10 +10,10 @@ use lib.Signed.{_≤ℤ_}
 use Rattle.ints.specs.Equal.{isEqual}
 use Rattle.lists.specs.Keep.{keep, every}
 use Rattle.lists.specs.Range.{range}
-use Rattle.lists.specs.Lexicographic.{Lower}
 use Rattle.lists.specs.Best.{Beats, bestOf}
 use Rattle.lists.specs.Sums.{sum}
 use Rattle.jobs.specs.Job.{Variable, Equation, Job, variable, equation}
+use Rattle.jobs.specs.TieBreak.{Earlier}
 
 -- the number that a list gives to a variable
 abbrev pub number : List ℤ → ℕ → ℤ
@@ -55,10 +55,6 @@ solutions j = keep (λ x. every (λ e. isEqual (value e x) (e .c)) (j .equations
 unfoldable pub objective : Job → List ℤ → ℤ
 unfolding sum
 objective j x = sum (length (j .variables)) (λ i. variable j i .weight *ℤ number x i)
-
--- "Equal worth: the fit-out with the lower number at count 0 comes first, then at count 1, and so on."
-abbrev pub Earlier : List ℤ → List ℤ → Type 0
-Earlier = Lower
 
 -- x is better than y: of more worth, or of equal worth and earlier
 abbrev pub Better : Job → List ℤ → List ℤ → Type 0

@@ -8,13 +8,16 @@ use lib.IntN.{ℤ, pos, _+ℤ_, _*ℤ_}
 use Rattle.lists.specs.Members.{_∈_}
 use Rattle.lists.specs.Table.{table}
 use Rattle.lists.proofs.Maps.{same-values}
-use Rattle.jobs.specs.Bytes.{u16, u32}
+use Rattle.bytes.specs.LittleEndian.{u16, u32}
 use Rattle.jobs.specs.Job.{Job, jobOf}
 use Rattle.jobs.specs.Solution.{number, solutions, objective, best}
-use Rattle.jobs.specs.Component.{lowest, leads, componentCount, component, groupRows}
+use Rattle.jobs.specs.SheetOffsets.{groupRowsAt}
+use Rattle.jobs.specs.Component.{lowest, leads, componentCount, component}
 use Rattle.jobs.specs.Family.{componentJob, base, step, chosen, slope}
 use Rattle.jobs.specs.Verdict.{Verdict, planned, noFit, refused, verdict}
-use Rattle.jobs.specs.Sheet.{answerMark, sheet}
+use Rattle.jobs.specs.SheetLayout.{answerMark}
+use Rattle.jobs.specs.Sheet.{sheet}
+use Rattle.jobs.specs.JobBytes.{plus, minus, header, count, plain, equationBytes, total, difference}
 use Rattle.jobs.specs.Demands.{worthOn, baseOn, stepOn, groupOn, zeroOn, fitsOn, chosenOn, gainOn, numbersOn, memberOn}
 
 -- a job, the area as lent, and what they give
@@ -35,35 +38,19 @@ filled job worth after = record { job = job; area = lent (length after); verdict
 abbrev untouched : List ℕ → ℕ → Verdict → Vector
 untouched job n v = record { job = job; area = lent n; verdict = v; after = lent n }
 
--- ---- rows of a job whose fields fit one byte
-abbrev pub header : ℕ → ℕ → ℕ → ℕ → List ℕ
-header n m rows whole = 70 ∷ 73 ∷ 84 ∷ 49 ∷ n ∷ 0 ∷ m ∷ 0 ∷ 24 ∷ 0 ∷ 0 ∷ 0 ∷ rows ∷ 0 ∷ 0 ∷ 0 ∷ whole ∷ 0 ∷ 0 ∷ 0 ∷ 0 ∷ 0 ∷ 0 ∷ 0 ∷ []
-
-abbrev pub count : ℕ → ℕ → ℕ → List ℕ
-count low high weight = low ∷ 0 ∷ 0 ∷ 0 ∷ high ∷ 0 ∷ 0 ∷ 0 ∷ weight ∷ 0 ∷ 0 ∷ 0 ∷ []
-
-abbrev equation : ℕ → ℕ → ℕ → ℕ → ℕ → List ℕ
-equation left right a b c = left ∷ 0 ∷ right ∷ 0 ∷ a ∷ 0 ∷ 0 ∷ 0 ∷ b ∷ 0 ∷ 0 ∷ 0 ∷ c ∷ 0 ∷ 0 ∷ 0 ∷ 0 ∷ 0 ∷ 0 ∷ 0 ∷ []
-
--- left − right = c
-abbrev pub difference : ℕ → ℕ → ℕ → List ℕ
-difference left right c = left ∷ 0 ∷ right ∷ 0 ∷ 1 ∷ 0 ∷ 0 ∷ 0 ∷ 255 ∷ 255 ∷ 255 ∷ 255 ∷ c ∷ 0 ∷ 0 ∷ 0 ∷ 0 ∷ 0 ∷ 0 ∷ 0 ∷ []
-
 -- ---- jobs with a fit-out, and their sheets
 -- document 01's job M, with narrower bounds
 abbrev pub narrowM : List ℕ
 narrowM =
     header 4 2 72 112 ++
-    -- 2..5, weight −30
-    2 ∷ 0 ∷ 0 ∷ 0 ∷ 5 ∷ 0 ∷ 0 ∷ 0 ∷ 226 ∷ 255 ∷ 255 ∷ 255 ∷ [] ++
-    count 32 80 4 ++
-    -- 0..3, weight −10
-    0 ∷ 0 ∷ 0 ∷ 0 ∷ 3 ∷ 0 ∷ 0 ∷ 0 ∷ 246 ∷ 255 ∷ 255 ∷ 255 ∷ [] ++
-    count 2 3 0 ++
+    count (plus 2) (plus 5) (minus 30) ++
+    count (plus 32) (plus 80) (plus 4) ++
+    count (plus 0) (plus 3) (minus 10) ++
+    count (plus 2) (plus 3) (plus 0) ++
     -- 16·c0 − c1 = 0
-    0 ∷ 0 ∷ 1 ∷ 0 ∷ 16 ∷ 0 ∷ 0 ∷ 0 ∷ 255 ∷ 255 ∷ 255 ∷ 255 ∷ 0 ∷ 0 ∷ 0 ∷ 0 ∷ 0 ∷ 0 ∷ 0 ∷ 0 ∷ [] ++
+    equationBytes 0 1 (plus 16) (minus 1) 0 ++
     -- 2·c0 − 3·c2 = 4
-    0 ∷ 0 ∷ 2 ∷ 0 ∷ 2 ∷ 0 ∷ 0 ∷ 0 ∷ 253 ∷ 255 ∷ 255 ∷ 255 ∷ 4 ∷ 0 ∷ 0 ∷ 0 ∷ 0 ∷ 0 ∷ 0 ∷ 0 ∷ []
+    equationBytes 0 2 (plus 2) (minus 3) 4
 
 abbrev narrowMSheet : List ℕ
 narrowMSheet =
@@ -90,10 +77,8 @@ emptySheet = 65 ∷ 78 ∷ 83 ∷ 49 ∷ 0 ∷ 0 ∷ 0 ∷ 0 ∷ 24 ∷ 0 ∷ 0 
 abbrev untied : List ℕ
 untied =
     header 2 0 48 48 ++
-    -- −2..3, weight 5
-    254 ∷ 255 ∷ 255 ∷ 255 ∷ 3 ∷ 0 ∷ 0 ∷ 0 ∷ 5 ∷ 0 ∷ 0 ∷ 0 ∷ [] ++
-    -- −3..0, weight −2
-    253 ∷ 255 ∷ 255 ∷ 255 ∷ 0 ∷ 0 ∷ 0 ∷ 0 ∷ 254 ∷ 255 ∷ 255 ∷ 255 ∷ []
+    count (minus 2) (plus 3) (plus 5) ++
+    count (minus 3) (plus 0) (minus 2)
 
 abbrev untiedSheet : List ℕ
 untiedSheet =
@@ -112,11 +97,9 @@ untiedSheet =
 abbrev falling : List ℕ
 falling =
     header 2 1 48 68 ++
-    -- −5..5
-    251 ∷ 255 ∷ 255 ∷ 255 ∷ 5 ∷ 0 ∷ 0 ∷ 0 ∷ 0 ∷ 0 ∷ 0 ∷ 0 ∷ [] ++
-    -- −3..3, weight 1
-    253 ∷ 255 ∷ 255 ∷ 255 ∷ 3 ∷ 0 ∷ 0 ∷ 0 ∷ 1 ∷ 0 ∷ 0 ∷ 0 ∷ [] ++
-    equation 0 1 1 2 0
+    count (minus 5) (plus 5) (plus 0) ++
+    count (minus 3) (plus 3) (plus 1) ++
+    equationBytes 0 1 (plus 1) (plus 2) 0
 
 abbrev fallingSheet : List ℕ
 fallingSheet =
@@ -131,7 +114,7 @@ fallingSheet =
 
 -- a ring: c0 + c1 = 5 and c0 − c1 = c
 abbrev ring : ℕ → List ℕ
-ring c = header 2 2 48 88 ++ count 0 9 0 ++ count 0 9 0 ++ equation 0 1 1 1 5 ++ difference 0 1 c
+ring c = header 2 2 48 88 ++ plain 9 ++ plain 9 ++ total 0 1 5 ++ difference 0 1 c
 
 -- 2 counts, 1 group, its row at 56, worth 0
 abbrev worthNothing : List ℕ
@@ -150,7 +133,7 @@ ringSheet =
 
 -- c0 − c1 = 0 and c0 − c1 = c
 abbrev twice : ℕ → List ℕ
-twice c = header 2 2 48 88 ++ count 0 3 0 ++ count 0 3 0 ++ difference 0 1 0 ++ difference 0 1 c
+twice c = header 2 2 48 88 ++ plain 3 ++ plain 3 ++ difference 0 1 0 ++ difference 0 1 c
 
 -- for c = 0
 abbrev twiceSheet : List ℕ
@@ -165,7 +148,7 @@ twiceSheet =
 
 -- c0 and c2 make one group, c0 − c2 = 0; c1 and c3 make another, by the tie given
 abbrev groups : List ℕ → List ℕ
-groups tie = header 4 2 72 112 ++ count 0 3 1 ++ count 0 3 1 ++ count 0 3 0 ++ count 0 3 1 ++ difference 0 2 0 ++ tie
+groups tie = header 4 2 72 112 ++ count (plus 0) (plus 3) (plus 1) ++ count (plus 0) (plus 3) (plus 1) ++ plain 3 ++ count (plus 0) (plus 3) (plus 1) ++ difference 0 2 0 ++ tie
 
 -- for c1 + c3 = 3: each of the four fit-outs of the second group makes the worth 6, and the lowest c1 comes first
 abbrev groupsSheet : List ℕ
@@ -188,13 +171,11 @@ groupsSheet =
 -- ---- jobs without one
 -- 2·c0 + 4·c1 = 7
 abbrev uneven : List ℕ
-uneven = header 2 1 48 68 ++ count 0 9 0 ++ count 0 9 0 ++ equation 0 1 2 4 7
+uneven = header 2 1 48 68 ++ plain 9 ++ plain 9 ++ equationBytes 0 1 (plus 2) (plus 4) 7
 
 -- 3·c0 − 5·c1 = 0
 abbrev noMultiple : List ℕ
-noMultiple =
-    header 2 1 48 68 ++ count 1 4 0 ++ count 0 9 0 ++
-    0 ∷ 0 ∷ 1 ∷ 0 ∷ 3 ∷ 0 ∷ 0 ∷ 0 ∷ 251 ∷ 255 ∷ 255 ∷ 255 ∷ 0 ∷ 0 ∷ 0 ∷ 0 ∷ 0 ∷ 0 ∷ 0 ∷ 0 ∷ []
+noMultiple = header 2 1 48 68 ++ count (plus 1) (plus 4) (plus 0) ++ plain 9 ++ equationBytes 0 1 (plus 3) (minus 5) 0
 
 -- ---- faulty jobs
 -- what follows the mark for n = 257
@@ -203,7 +184,7 @@ tooMany = 1 ∷ 1 ∷ 0 ∷ 0 ∷ 24 ∷ 0 ∷ 0 ∷ 0 ∷ 36 ∷ 12 ∷ 0 ∷ 0
 
 -- 0..3, weight 1,000,001
 abbrev overweight : List ℕ
-overweight = 0 ∷ 0 ∷ 0 ∷ 0 ∷ 3 ∷ 0 ∷ 0 ∷ 0 ∷ 65 ∷ 66 ∷ 15 ∷ 0 ∷ []
+overweight = count (plus 0) (plus 3) (65 ∷ 66 ∷ 15 ∷ 0 ∷ [])
 
 abbrev pub fitted : List Vector
 fitted =
@@ -215,7 +196,7 @@ fitted =
     filled falling (pos 2) fallingSheet ∷
     filled (ring 1) (pos 0) ringSheet ∷
     filled (twice 0) (pos 0) twiceSheet ∷
-    filled (groups (equation 1 3 1 1 3)) (pos 6) groupsSheet ∷ []
+    filled (groups (total 1 3 3)) (pos 6) groupsSheet ∷ []
 
 abbrev pub vectors : List Vector
 vectors =
@@ -226,8 +207,8 @@ vectors =
     untouched (ring 2) 72 (noFit 0) ∷
     untouched (twice 1) 72 (noFit 0) ∷
     -- a low above its high
-    untouched (header 2 0 48 48 ++ count 0 3 0 ++ count 3 2 0) 88 (noFit 1) ∷
-    untouched (groups (equation 1 3 2 4 7)) 120 (noFit 1) ∷
+    untouched (header 2 0 48 48 ++ plain 3 ++ count (plus 3) (plus 2) (plus 0)) 88 (noFit 1) ∷
+    untouched (groups (equationBytes 1 3 (plus 2) (plus 4) 7)) 120 (noFit 1) ∷
     -- an area one byte short, which stands before no fit
     untouched narrowM 119 (refused 8 0) ∷
     untouched uneven 71 (refused 8 0) ∷
@@ -236,11 +217,11 @@ vectors =
     untouched (70 ∷ 73 ∷ 84 ∷ 50 ∷ tooMany) 8 (refused 2 0) ∷
     untouched (70 ∷ 73 ∷ 84 ∷ 49 ∷ tooMany) 8 (refused 3 0) ∷
     untouched (header 0 0 24 24 ++ 0 ∷ []) 8 (refused 4 0) ∷
-    untouched (header 2 1 48 68 ++ overweight ++ overweight ++ equation 1 1 1 1 0) 8 (refused 5 0) ∷
-    untouched (header 2 2 48 88 ++ count 0 3 0 ++ overweight ++ equation 1 1 1 1 0 ++ equation 0 1 1 1 3) 8 (refused 5 1) ∷
+    untouched (header 2 1 48 68 ++ overweight ++ overweight ++ total 1 1 0) 8 (refused 5 0) ∷
+    untouched (header 2 2 48 88 ++ plain 3 ++ overweight ++ total 1 1 0 ++ total 0 1 3) 8 (refused 5 1) ∷
     -- in the second equation both a count not below n and a = 0
-    untouched (header 2 2 48 88 ++ count 0 3 0 ++ count 0 3 0 ++ equation 0 1 1 1 3 ++ equation 0 2 0 1 3) 8 (refused 6 1) ∷
-    untouched (header 2 2 48 88 ++ count 0 3 0 ++ count 0 3 0 ++ equation 0 1 0 1 3 ++ equation 1 1 1 1 3) 8 (refused 7 0) ∷ []
+    untouched (header 2 2 48 88 ++ plain 3 ++ plain 3 ++ total 0 1 3 ++ equationBytes 0 2 (plus 0) (plus 1) 3) 8 (refused 6 1) ∷
+    untouched (header 2 2 48 88 ++ plain 3 ++ plain 3 ++ equationBytes 0 1 (plus 0) (plus 1) 3 ++ total 1 1 3) 8 (refused 7 0) ∷ []
 
 abbrev given : Vector → Verdict × List ℕ
 given v = (verdict (v .job) (v .area), sheet (v .job) (v .area))
@@ -295,7 +276,7 @@ defined v =
     let j = jobOf (v .job) in
     let own : ℕ → Job = λ i. componentJob j (lowest j i) in
     record {
-      header = answerMark ++ length (j .variables) ∷ componentCount j ∷ 24 ∷ groupRows j ∷ [];
+      header = answerMark ++ length (j .variables) ∷ componentCount j ∷ 24 ∷ groupRowsAt j ∷ [];
       worth = objective j (best j);
       numbers = best j;
       sums = best j;

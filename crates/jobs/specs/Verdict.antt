@@ -11,7 +11,8 @@ use Rattle.jobs.specs.Decide.{below?, equal?, firstOf}
 use Rattle.jobs.specs.Job.{Job, jobOf}
 use Rattle.jobs.specs.Faults.{firstBroken}
 use Rattle.jobs.specs.Solution.{objective, best}
-use Rattle.jobs.specs.Component.{leads, sheetLength}
+use Rattle.jobs.specs.SheetOffsets.{sheetLength}
+use Rattle.jobs.specs.Component.{leads}
 use Rattle.jobs.specs.Family.{componentJob, fits}
 
 pub data Verdict : Type 0 where
@@ -24,10 +25,11 @@ unfoldable pub firstWithout : Job → Option ℕ
 unfolding firstOf fits componentJob leads
 firstWithout j = firstOf (λ l. equal? (fits (componentJob j l)) 0) (leads j)
 
-abbrev pub outcome : Job → Option Reason → Option ℕ → Verdict
-outcome j (some r) l = refused (numberOf r) (rowOf r)
-outcome j none (some l) = noFit l
-outcome j none none = planned (objective j (best j))
+-- by the first reason that applies, the first group without a solution, and the worth of the best
+abbrev pub outcome : Option Reason → Option ℕ → ℤ → Verdict
+outcome (some r) l worth = refused (numberOf r) (rowOf r)
+outcome none (some l) worth = noFit l
+outcome none none worth = planned worth
 
 -- reason 8, as a test that computes (proofs/Numbering.antt: it is what the table says, `short-iff`)
 abbrev pub short? : (j : Job) (area : List ℕ) → Dec (length area < sheetLength j)
@@ -35,4 +37,4 @@ short? j area = below? (length area) (sheetLength j)
 
 unfoldable pub verdict : List ℕ → List ℕ → Verdict
 unfolding firstBroken firstWithout objective best jobOf leads
-verdict s area = outcome (jobOf s) (firstBroken (short? (jobOf s) area) s) (firstWithout (jobOf s))
+verdict s area = let j = jobOf s in outcome (firstBroken (short? j area) s) (firstWithout j) (objective j (best j))

@@ -6,11 +6,10 @@ ghost use mathlib.Core.Logic.{_↔_};
 ghost use Prim.Native.Nat.{_≤_};
 ghost use lib.ListN.{length, take};
 ghost use Rattle.jobs.specs.Job.{variableCount, equationCount};
-ghost use Rattle.jobs.specs.Table.{mark, Header};
+ghost use Rattle.jobs.specs.ReasonTable.{mark, Header, headerChecks};
 ghost use Rattle.jobs.specs.Decide.{firstOf};
-ghost use Rattle.jobs.specs.Faults.{broken?, noArea?, headerChecks, faultOf};
+ghost use Rattle.jobs.specs.Faults.{broken?, noArea?, faultOf};
 use crate::Checked;
-use crate::bytes;
 use reasons::Reason;
 
 /// How many variables the header names, document 01's n.

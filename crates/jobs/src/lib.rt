@@ -4,17 +4,14 @@
 
 ghost use mathlib.Core.Path.{_≡_};
 ghost use mathlib.Core.List.{flatMap};
-ghost use Prim.Native.Nat.{_≤_};
-ghost use lib.ListN.{length};
 ghost use Rattle.lists.specs.Table.{table, upTo};
 ghost use Rattle.reasons.specs.declared.Reason.the-variants.{VariableRange};
-ghost use Rattle.jobs.specs.Job.{variableCount, variableRow, equationCount, equationRow};
+ghost use Rattle.jobs.specs.Job.{RowsInside, variableCount, equationCount};
 ghost use Rattle.jobs.specs.Decide.{firstOf};
-ghost use Rattle.jobs.specs.Faults.{broken?, noArea?, faultOf, answerOf, equationChecks, rowChecks, checked, ChecksExactly};
+ghost use Rattle.jobs.specs.ReasonTable.{equationChecks, rowChecks};
+ghost use Rattle.jobs.specs.Faults.{broken?, noArea?, faultOf, answerOf, checked, ChecksExactly};
 use reasons::Reason;
 
-// little-endian numbers
-pub mod bytes;
 // the rows of variables and of equations
 mod rows;
 // the header
@@ -34,6 +31,12 @@ pub struct Equation {
     pub a: i64,
     pub b: i64,
     pub c: i64,
+}
+
+/// A variable's bounds. They come to the planner apart from the job's bytes, so that the same job can be planned with others.
+pub struct Bounds {
+    pub low: i64,
+    pub high: i64,
 }
 
 /// What the job check answers.
@@ -56,9 +59,7 @@ pub fn check(job: &[u8]) -> Checked
 
 // The first fault of the rows, of reasons 5 to 7: all variables' rows come before the equations' rows.
 fn check_rows(job: &[u8]) -> Checked
-    requires { ⌜ variableCount (now job) ≤ 256 ⌝ }
-    requires { ⌜ equationCount (now job) ≤ 1024 ⌝ }
-    requires { ⌜ length (now job) ≡ equationRow (variableCount (now job)) (equationCount (now job)) ⌝ }
+    requires { ⌜ RowsInside (now job) ⌝ }
     ensures { λ r. ⌜ faultOf r ≡ firstOf (broken? noArea? (now (job .entry))) (rowChecks (now (job .entry))) ⌝ }
 {
     let n = header::variable_count(job);
@@ -72,9 +73,8 @@ fn check_rows(job: &[u8]) -> Checked
 
 // The first of n variables whose row breaks a rule, or none.
 fn check_variables(job: &[u8], n: usize) -> Checked
+    requires { ⌜ RowsInside (now job) ⌝ }
     requires { ⌜ n ≡ variableCount (now job) ⌝ }
-    requires { ⌜ n ≤ 256 ⌝ }
-    requires { ⌜ variableRow n ≤ length (now job) ⌝ }
     ensures { λ r. ⌜ faultOf r ≡ firstOf (broken? noArea? (now (job .entry))) (table VariableRange n) ⌝ }
 {
     let mut i: usize = 0;
@@ -91,11 +91,9 @@ fn check_variables(job: &[u8], n: usize) -> Checked
 
 // The first of m equations whose row breaks a rule, or none. In one row the variables come before the coefficients.
 fn check_equations(job: &[u8], n: usize, m: usize) -> Checked
+    requires { ⌜ RowsInside (now job) ⌝ }
     requires { ⌜ n ≡ variableCount (now job) ⌝ }
-    requires { ⌜ n ≤ 256 ⌝ }
     requires { ⌜ m ≡ equationCount (now job) ⌝ }
-    requires { ⌜ m ≤ 1024 ⌝ }
-    requires { ⌜ equationRow n m ≤ length (now job) ⌝ }
     ensures { λ r. ⌜ faultOf r ≡ firstOf (broken? noArea? (now (job .entry))) (flatMap equationChecks (upTo m)) ⌝ }
 {
     let mut k: usize = 0;

@@ -3,20 +3,18 @@
 ghost use mathlib.Core.Path.{_≡_};
 ghost use mathlib.Core.Bool.{true};
 ghost use mathlib.Core.Logic.{_↔_};
-ghost use Prim.Native.Nat.{_+_, _≤_, _<_};
-ghost use lib.ListN.{length};
-ghost use Rattle.jobs.specs.Job.{variableRow, variableAt, equationRow, equationFrom, form};
-ghost use Rattle.jobs.specs.Table.{InRange, Misnamed, Coefficients};
+ghost use Prim.Native.Nat.{_<_};
+ghost use Rattle.jobs.specs.Job.{jobOf, RowsInside, variableCount, equationCount, variable, equation, form};
+ghost use Rattle.jobs.specs.ReasonTable.{InRange, Misnamed, Coefficients};
 use crate::Equation;
 use crate::Variable;
-use crate::bytes;
 
 impl Variable {
     /// The row of variable i.
     pub fn read(job: &[u8], i: usize) -> Variable
-        requires { ⌜ i < 65536 ⌝ }
-        requires { ⌜ variableRow (i + 1) ≤ length (now job) ⌝ }
-        ensures { λ r. ⌜ r ≡ variableAt (now (job .entry)) i ⌝ }
+        requires { ⌜ RowsInside (now job) ⌝ }
+        requires { ⌜ i < variableCount (now job) ⌝ }
+        ensures { λ r. ⌜ r ≡ variable (jobOf (now (job .entry))) i ⌝ }
     {
         let at = 24 + 12 * i;
         Variable {
@@ -42,10 +40,10 @@ impl Variable {
 impl Equation {
     /// Row k of the equations, behind the rows of n variables.
     pub fn read(job: &[u8], n: usize, k: usize) -> Equation
-        requires { ⌜ n < 65536 ⌝ }
-        requires { ⌜ k < 65536 ⌝ }
-        requires { ⌜ equationRow n (k + 1) ≤ length (now job) ⌝ }
-        ensures { λ r. ⌜ r ≡ equationFrom (now (job .entry)) (equationRow n k) ⌝ }
+        requires { ⌜ RowsInside (now job) ⌝ }
+        requires { ⌜ n ≡ variableCount (now job) ⌝ }
+        requires { ⌜ k < equationCount (now job) ⌝ }
+        ensures { λ r. ⌜ r ≡ equation (jobOf (now (job .entry))) k ⌝ }
     {
         let at = 24 + 12 * n + 20 * k;
         Equation {

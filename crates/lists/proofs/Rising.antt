@@ -39,6 +39,11 @@ rising-at (more {x} {xs} f r) i zero d h l = absurd (omega arith)
 rising-at (more {x} {xs} f r) zero (suc k) d h l = f (getD xs k d) (member-at xs k d (omega arith))
 rising-at (more {x} {xs} f r) (suc i) (suc k) d h l = rising-at r i k d (omega arith) (omega arith)
 
+-- and behind a member
+pub rising-behind : {A : Type 0} {R : A → A → Type 0} (xs : List A) {x : A} {ys : List A} → Rising R (xs ++ x ∷ ys) → (y : A) → y ∈ ys → R x y
+rising-behind [] (more f r) = f
+rising-behind (z ∷ xs) (more f r) = rising-behind xs r
+
 -- ---- lists of one member, and made by ++, map and flatMap
 pub rising-one : {A : Type 0} {R : A → A → Type 0} (x : A) → Rising R (x ∷ [])
 rising-one x = more (λ y m. absurd (List·Memᴰ·not-nil m)) none

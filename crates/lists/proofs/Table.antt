@@ -1,5 +1,5 @@
 -- The members of a table, that it rises where f does, its length, and what stands at each place; and of 0, 1, .., n − 1.
-use mathlib.Core.Path.{_≡_, refl, _∙_, ap}
+use mathlib.Core.Path.{_≡_, refl, sym, _∙_, ap}
 use mathlib.Core.Logic.{_↔_}
 use Prim.Native.Nat.{ℕ, zero, suc, _+_, _-_, _≤_, _<_}
 use mathlib.Core.List.{[], _∷_, _++_}
@@ -10,6 +10,7 @@ use lib.ListN.{length, getD}
 use Rattle.lists.specs.Members.{_∈_, here, there}
 use Rattle.lists.specs.Rising.{Rising, none, more}
 use Rattle.lists.specs.Table.{tableFrom, table, upTo}
+use Rattle.lists.proofs.Places.{same-places}
 use Rattle.lists.proofs.Rising.{rising-at}
 
 module _ {A : Type 0} (f : ℕ → A) where
@@ -101,3 +102,10 @@ rising-upTo n = rising-table (λ i. i) n (λ j k h l. h)
 
 pub length-upTo : (n : ℕ) → length (upTo n) ≡ n
 length-upTo = length-table (λ i. i)
+
+-- two tables with the same at each place
+pub same-table : {A : Type 0} (d : A) (f g : ℕ → A) {m n : ℕ} → m ≡ n → ((i : ℕ) → i < m → f i ≡ g i) → table f m ≡ table g n
+same-table d f g {m} {n} e same = same-places d (table f m) (table g n) (length-table f m ∙ e ∙ sym (length-table g n)) (λ i h. at i (omega (arith, h, length-table f m)))
+  where
+    at : (i : ℕ) → i < m → getD (table f m) i d ≡ getD (table g n) i d
+    at i h = table-at f m i d h ∙ same i h ∙ sym (table-at g n i d (omega (arith, e, h)))

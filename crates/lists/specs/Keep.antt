@@ -1,4 +1,4 @@
--- A test put to the members of a list.
+-- A test put to the members of a list. A Bool is all that a search needs to compute; the kit's `filter` takes a decision.
 use mathlib.Core.Bool.{Bool, true, false, cond, _&&_, _||_}
 use mathlib.Core.List.{List, [], _∷_}
 use Prim.Native.Nat.{ℕ, suc}

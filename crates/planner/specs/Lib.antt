@@ -2,7 +2,5 @@
 
 -- what the planner's answer says
 pub mod Outcome
--- bytes that are written over
-pub mod Area
--- the choice, and the rows of the sheet
-pub mod Choices
+-- the choice, and what is found
+pub mod Choice

@@ -1,23 +1,25 @@
-//! The choice in each group, and what it comes to.
+//! The choice in each component, and what it comes to.
 
 ghost use mathlib.Core.Path.{_≡_};
 ghost use Prim.Native.Nat.{_≤_};
-ghost use Rattle.runs.proofs.Turns.{FamilyRun};
-ghost use Rattle.jobs.specs.Job.{jobOf, variableCount};
-ghost use Rattle.jobs.proofs.Lawful.{Lawful};
+ghost use lib.IntN.{pos};
+ghost use Rattle.lists.specs.Table.{Tabulates};
+ghost use Rattle.jobs.specs.Solution.{number};
+ghost use Rattle.families.specs.FamilyRun.{FamilyRun};
 ghost use Rattle.families.specs.Family.{choice};
-ghost use Rattle.solver.specs.Groups.{Labelled};
-ghost use Rattle.planner.specs.Choices.{Members, NoneEmpty, FirstEmpty, Gains, numberAt, worthOf};
-use jobs::Variable;
+ghost use Rattle.families.specs.ModelFindings.{slopeBy};
+ghost use Rattle.solver.specs.StateArrays.{labelIn, runIn};
+ghost use Rattle.solver.specs.Labels.{Labelled};
+ghost use Rattle.planner.specs.Choice.{FamilyRuns, NoneEmpty, AllWithin, FirstEmpty, numberAt, numberIn, objectiveIn};
 use runs::Run;
 
-/// The first group without a fit, by its lowest variable, or that there is none.
+/// The first component without a fit, by its lowest variable, or that there is none.
 pub enum Found {
     At(u16),
     Nothing,
 }
 
-// The first of n variables that no number fits: the lowest of its group, since all variables of a group have equally many.
+// The first of n variables that no number fits: the lowest of its component, since all variables of a component have equally many.
 pub(crate) fn first_empty(runs: [Run; 256], n: usize) -> Found
     requires { ⌜ n ≤ 256 ⌝ }
     ensures { λ r. ⌜ FirstEmpty runs n r ⌝ }
@@ -35,66 +37,84 @@ pub(crate) fn first_empty(runs: [Run; 256], n: usize) -> Found
     }
 }
 
-// The gain of each group, at its lowest variable: what a step along its family adds to the worth.
-pub(crate) fn gains(job: &[u8], groups: [u16; 256], runs: [Run; 256], n: usize) -> [i64; 256]
-    requires { ⌜ Lawful (now job) ⌝ }
-    requires { ⌜ n ≡ variableCount (now job) ⌝ }
-    requires { ⌜ Labelled groups n ⌝ }
-    requires { ⌜ Members runs n ⌝ }
-    ensures { λ r. ⌜ Gains (jobOf (now (job .entry))) groups runs n r ⌝ }
+// The slope of each component, at its lowest variable: what a step along its family adds to the objective.
+pub(crate) fn slopes(
+    weights: [i64; 256],
+    labels: [u16; 256],
+    runs: [Run; 256],
+    n: usize,
+) -> [i64; 256]
+    requires { ⌜ n ≤ 256 ⌝ }
+    requires { ⌜ AllWithin 1000000 weights n ⌝ }
+    requires { ⌜ Labelled labels n ⌝ }
+    requires { ⌜ FamilyRuns runs n ⌝ }
+    ensures { λ r. ⌜ Tabulates (pos 0) (slopeBy n (number weights) (labelIn labels) (runIn runs)) n r ⌝ }
 {
-    let mut gains: [i64; 256] = [0; 256];
+    let mut slopes: [i64; 256] = [0; 256];
     let mut i: usize = 0;
     while i < n {
-        let v = Variable::read(job, i);
         let run = runs[i];
-        let l = groups[i] as usize;
-        gains[l] = gains[l] + v.weight * run.step;
+        let l = labels[i] as usize;
+        slopes[l] = slopes[l] + weights[i] * run.step;
         i += 1;
     }
-    gains
+    slopes
 }
 
 // The index of the member that is chosen: the last where each step gains, and the first elsewhere.
-pub(crate) fn choice(gain: i64, many: u32) -> u32
+pub(crate) fn choice(slope: i64, many: u32) -> u32
     requires { ⌜ 1 ≤ many ⌝ }
-    ensures { λ r. ⌜ r ≡ choice gain many ⌝ }
+    ensures { λ r. ⌜ r ≡ choice slope many ⌝ }
 {
-    if 0 < gain { many - 1 } else { 0 }
+    if 0 < slope { many - 1 } else { 0 }
 }
 
 // A variable's number in the member that is chosen.
-pub(crate) fn number(run: Run, gain: i64) -> i64
+fn number(run: Run, slope: i64) -> i64
     requires { ⌜ FamilyRun run ⌝ }
     requires { ⌜ 1 ≤ run .many ⌝ }
-    ensures { λ r. ⌜ r ≡ numberAt run gain ⌝ }
+    ensures { λ r. ⌜ r ≡ numberAt run slope ⌝ }
 {
-    run.first + run.step * choice(gain, run.many) as i64
+    run.first + run.step * choice(slope, run.many) as i64
 }
 
-// The worth of these numbers.
-pub(crate) fn worth(
-    job: &[u8],
-    groups: [u16; 256],
+// The number of each of n variables.
+pub(crate) fn numbers(
+    labels: [u16; 256],
     runs: [Run; 256],
-    gains: [i64; 256],
+    slopes: [i64; 256],
     n: usize,
-) -> i64
-    requires { ⌜ Lawful (now job) ⌝ }
-    requires { ⌜ n ≡ variableCount (now job) ⌝ }
-    requires { ⌜ Labelled groups n ⌝ }
-    requires { ⌜ Members runs n ⌝ }
+) -> [i64; 256]
+    requires { ⌜ n ≤ 256 ⌝ }
+    requires { ⌜ Labelled labels n ⌝ }
+    requires { ⌜ FamilyRuns runs n ⌝ }
     requires { ⌜ NoneEmpty runs n ⌝ }
-    ensures { λ r. ⌜ r ≡ worthOf (jobOf (now (job .entry))) groups runs gains n ⌝ }
+    ensures { λ r. ⌜ Tabulates (pos 0) (numberIn labels runs slopes) n r ⌝ }
 {
-    let mut worth: i64 = 0;
+    let mut numbers: [i64; 256] = [0; 256];
     let mut i: usize = 0;
     while i < n {
-        let v = Variable::read(job, i);
         let run = runs[i];
-        let l = groups[i] as usize;
-        worth = worth + v.weight * number(run, gains[l]);
+        let l = labels[i] as usize;
+        let x = number(run, slopes[l]);
+        numbers[i] = x;
         i += 1;
     }
-    worth
+    numbers
+}
+
+// What these numbers are worth.
+pub(crate) fn objective(weights: [i64; 256], numbers: [i64; 256], n: usize) -> i64
+    requires { ⌜ n ≤ 256 ⌝ }
+    requires { ⌜ AllWithin 1000000 weights n ⌝ }
+    requires { ⌜ AllWithin 2000000000 numbers n ⌝ }
+    ensures { λ r. ⌜ r ≡ objectiveIn weights numbers n ⌝ }
+{
+    let mut objective: i64 = 0;
+    let mut i: usize = 0;
+    while i < n {
+        objective = objective + weights[i] * numbers[i];
+        i += 1;
+    }
+    objective
 }

@@ -3,31 +3,32 @@
 //! Read `specs/Lib.antt`, then this file, then the modules in the order in which they are listed.
 
 ghost use mathlib.Core.Path.{_≡_};
-ghost use Prim.Native.Nat.{_≤_};
+ghost use Prim.Native.Nat.{_+_, _*_, _≤_};
 ghost use lib.ListN.{length};
+ghost use Rattle.jobs.specs.Solution.{number};
+ghost use Rattle.jobs.specs.Lawful.{Lawful};
 ghost use Rattle.jobs.specs.Faults.{accepted, checked};
-ghost use Rattle.jobs.specs.Job.{jobOf, variableCount};
-ghost use Rattle.jobs.specs.Component.{componentCount, sheetLength};
 ghost use Rattle.jobs.specs.Verdict.{planned, verdict};
+ghost use Rattle.jobs.specs.SheetLayout.{laidOut};
 ghost use Rattle.jobs.specs.Sheet.{sheet};
 ghost use Rattle.jobs.specs.Demands.{TurnsAway, GivesFits, CannotBeBettered};
-ghost use Rattle.jobs.proofs.Lawful.{Lawful};
-ghost use Rattle.solver.specs.Analysis.{Families};
-ghost use Rattle.planner.specs.Choices.{NoneEmpty};
-ghost use Rattle.planner.specs.Outcome.{verdictOf, worthOfBest, sheetOfBest};
+ghost use Rattle.families.specs.ModelFindings.{leadsBy, findingsBy};
+ghost use Rattle.solver.specs.StateArrays.{labelIn, runIn};
+ghost use Rattle.solver.specs.Labels.{Lowest};
+ghost use Rattle.bytes.specs.Over.{over};
+ghost use Rattle.planner.specs.Choice.{Members, NoneEmpty, AllWithin};
+ghost use Rattle.planner.specs.Outcome.{verdictOf};
 use choose::Found;
 use jobs::Checked;
 use jobs::header;
 use reasons::Reason;
 use solver::State;
+use solver::components;
 use solver::equations;
-use solver::groups;
-use solver::range;
+use solver::variables;
 
-// the choice in each group
+// the choice in each component
 mod choose;
-// numbers written into bytes
-mod bytes;
 // the sheet
 mod sheet;
 
@@ -35,7 +36,7 @@ mod sheet;
 pub enum Outcome {
     /// The sheet stands in the answer area, and its numbers are worth so much.
     Planned(i64),
-    /// No numbers fit; this is the lowest variable of the first group that has none.
+    /// No numbers fit; this is the lowest variable of the first component that has none.
     NoFit(u16),
     /// The job is faulty or the answer area too short; nothing is written.
     Refused(Reason),
@@ -66,36 +67,40 @@ fn fitted(job: &[u8], area: &mut [u8]) -> Outcome
 {
     let n = header::variable_count(job);
     let m = header::equation_count(job);
-    let lowest = groups::lowest(job, n, m);
-    let g = groups::count(lowest, n);
+    let lowest = components::lowest(job, n, m);
+    let g = components::count(lowest, n);
     if area.len() < sheet::length(n, g) {
         return Outcome::Refused(Reason::ShortArea);
     }
-    let bounds = range::bounds_of(job, n);
+    let rows = variables::read(job, n);
+    let bounds = rows.bounds;
+    let weights = rows.weights;
     let state = equations::families(job, bounds, n, m);
     let runs = state.runs;
     let empty = choose::first_empty(runs, n);
     match empty {
         Found::At(l) => Outcome::NoFit(l),
-        Found::Nothing => written(job, area, state, n, g),
+        Found::Nothing => written(area, weights, state, n, g),
     }
 }
 
-// The sheet of the best solution, where every group has one; state has the families of the job's n variables in g groups.
-fn written(job: &[u8], area: &mut [u8], state: State, n: usize, g: usize) -> Outcome
-    requires { ⌜ Lawful (now job) ⌝ }
-    requires { ⌜ n ≡ variableCount (now job) ⌝ }
-    requires { ⌜ g ≡ componentCount (jobOf (now job)) ⌝ }
-    requires { ⌜ Families (jobOf (now job)) state ⌝ }
+// The sheet of what is found, where every component has a fit-out; state has the families of n variables in g components.
+fn written(area: &mut [u8], weights: [i64; 256], state: State, n: usize, g: usize) -> Outcome
+    requires { ⌜ n ≤ 256 ⌝ }
+    requires { ⌜ AllWithin 1000000 weights n ⌝ }
+    requires { ⌜ Lowest (state .labels) n ⌝ }
+    requires { ⌜ Members (state .labels) (state .runs) n ⌝ }
     requires { ⌜ NoneEmpty (state .runs) n ⌝ }
-    requires { ⌜ sheetLength (jobOf (now job)) ≤ length (now area) ⌝ }
-    ensures { λ r. ⌜ verdictOf r ≡ planned (worthOfBest (jobOf (now (job .entry)))) ⌝ }
-    ensures { λ _. ⌜ now (area .exit) ≡ sheetOfBest (jobOf (now (job .entry))) (now (area .entry)) ⌝ }
+    requires { ⌜ g ≡ length (leadsBy (labelIn (state .labels)) n) ⌝ }
+    requires { ⌜ 24 + 16 * n + 16 * g ≤ length (now area) ⌝ }
+    ensures { λ r. ⌜ verdictOf r ≡ planned (findingsBy n (number weights) (labelIn (state .labels)) (runIn (state .runs)) .objective) ⌝ }
+    ensures { λ _. ⌜ now (area .exit) ≡ over 0 (laidOut (findingsBy n (number weights) (labelIn (state .labels)) (runIn (state .runs)))) (now (area .entry)) ⌝ }
 {
-    let groups = state.groups;
+    let labels = state.labels;
     let runs = state.runs;
-    let gains = choose::gains(job, groups, runs, n);
-    let worth = choose::worth(job, groups, runs, gains, n);
-    sheet::write(area, groups, runs, gains, n, g, worth);
-    Outcome::Planned(worth)
+    let slopes = choose::slopes(weights, labels, runs, n);
+    let numbers = choose::numbers(labels, runs, slopes, n);
+    let objective = choose::objective(weights, numbers, n);
+    sheet::write(area, labels, runs, slopes, numbers, n, g, objective);
+    Outcome::Planned(objective)
 }

@@ -7,10 +7,11 @@ use Rattle.ints.proofs.{ℤ, pos, negsuc}
 use Rattle.lists.specs.Keep.{every}
 use Rattle.runs.specs.Run.{Run, OneForm, numbers, isOneForm, empty, full}
 use Rattle.runs.specs.Search.{meet, carry}
-use Rattle.runs.specs.Workings.{Equation, inLimits}
-use Rattle.runs.proofs.Clips.{full-form}
-use Rattle.runs.proofs.Model.{meetModel, carryModel, meet-model, carry-model}
-use Rattle.runs.proofs.Laws.{carry-form}
+use Rattle.runs.specs.Workings.{Equation, carryLimits}
+use Rattle.runs.proofs.ClassInInterval.{full-form}
+use Rattle.runs.specs.Model.{meetModel, carryModel}
+use Rattle.runs.proofs.Model.{meet-model, carry-model}
+use Rattle.runs.proofs.MeetAndCarry.{carry-form}
 use Rattle.runs.proofs.Refusals.{one-form-iff, in-limits-iff}
 
 abbrev tie : ℤ → ℤ → ℤ → Equation
@@ -21,7 +22,7 @@ abbrev bounds : ℤ → ℕ → Run
 bounds low n = record { first = low; step = pos 1; many = n }
 
 -- the numbers of the first count that the second completes are those of r, if the model says so
-module _ (a b c : ℤ) (P Q r : Run) (lawful : inLimits (tie a b c) ≡ true) where
+module _ (a b c : ℤ) (P Q r : Run) (lawful : carryLimits (tie a b c) ≡ true) where
   by-model : OneForm P → OneForm Q → meetModel P (carryModel (tie a b c) Q) ≡ r → meet P (carry a b c Q) ≡ r
   by-model o o′ e =
       let lim = in-limits-iff (tie a b c) .0 lawful in
@@ -46,8 +47,3 @@ small-jobs = (
 pub full-job : meet full (carry (pos 1000000) (negsuc 999998) (pos 1) full) ≡ record { first = negsuc 999998998; step = pos 999999; many = 2000 }
 unfolding meetModel carryModel
 full-job = by-model (pos 1000000) (negsuc 999998) (pos 1) full full (record { first = negsuc 999998998; step = pos 999999; many = 2000 }) refl full-form full-form refl
-
--- the full range met with itself
-pub full-met : meet full full ≡ full
-unfolding meetModel
-full-met = sym (meet-model full-form full-form) ∙ refl

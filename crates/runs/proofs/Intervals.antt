@@ -1,11 +1,12 @@
--- Intervals: what is common to two of them.
+-- Intervals: what is common to two of them, and the whole range.
 use mathlib.Core.Path.{_≡_, refl}
 use mathlib.Core.Logic.{_↔_}
 use mathlib.Core.Bool.{Bool, true, false, cond}
 use mathlib.Core.List.{[], _∷_}
-use Prim.Native.Nat.{_≤_}
-use Rattle.ints.proofs.{ℤ, ltZ, _≤ℤ_, arith, lin, facts}
-use Rattle.runs.specs.Method.{Interval, InInterval, greater, smaller, common}
+use Rattle.ints.specs.Within.{Within}
+use Rattle.ints.proofs.{ℤ, ltZ, _≤ℤ_, arith, lin, _&_, facts}
+use Rattle.runs.specs.Run.{full, bound}
+use Rattle.runs.specs.Method.{Interval, InInterval, greater, smaller, common, span}
 
 -- what holds of both holds of either
 pub either : {A : Type 0} (P : A → Type 0) (t : Bool) {x y : A} → P x → P y → P (cond t x y)
@@ -56,3 +57,10 @@ in-common i j x = (to, from)
 -- two intervals with the same ends are one
 pub same-interval : {i j : Interval} → i .low ≡ j .low → i .high ≡ j .high → i ≡ j
 same-interval a b = λ k. record { low = a k; high = b k }
+
+-- the numbers within ±1,000,000,000 are an interval
+pub in-whole : (x : ℤ) → Within bound x ↔ InInterval (span full) x
+in-whole x = (
+  λ w. record { low = lin (x ∷ []) w (search facts depth 20) (omega arith); high = lin (x ∷ []) w (search facts depth 20) (omega arith) },
+  λ i. lin (x ∷ []) (i .low & i .high) (search facts depth 20) (omega arith),
+)

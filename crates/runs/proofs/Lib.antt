@@ -1,39 +1,42 @@
--- The laws of runs, in the order in which they rest on each other. Other crates go by Laws, Turns,
--- Indices and Joins, compute with Model, and find in Refusals when a working refuses.
+-- The laws of runs, in the order in which they rest on each other. Other crates go by MeetAndCarry, compute with the model
+-- that Model is about, and find in Refusals when a working refuses.
 
--- a run's numbers; a run in its one form is determined by its members
+-- a run's numbers as a list and by their places (`in-numbers`, `rising-numbers`); a run in its one form is determined by its
+-- members (`by-members`)
 pub mod Members
 -- arithmetic progressions over ℤ
 pub mod Progressions
--- a run as the part of a residue class from its first to its last number, and how large it is
-pub mod Spans
+-- a run as the part of a residue class from its first to its last number (`in-span`), and how large it is (`sizes`)
+pub mod ClassOfRun
 -- what is common to two intervals
 pub mod Intervals
--- the part of a residue class in an interval as a run
-pub mod Clips
--- the greatest common divisor: the loop of Euclid's algorithm
+-- the part of a residue class in an interval as a run (`is-clip`)
+pub mod ClassInInterval
+-- the greatest common divisor: the loop of Euclid's algorithm (`Inv`)
 pub mod Euclid
--- the solutions of a congruence
-pub mod Solving
+-- the solutions of a congruence, from the greatest common divisor (`every`), or that there is none (`nothing`)
+pub mod CongruenceSolutions
 -- the period of a congruence's solutions
-pub mod Periods
+pub mod SolutionPeriod
 -- how large the numbers of carrying are
-pub mod Widths
--- meeting: the model is the definition
-pub mod Meets
--- carrying: the model is the definition
-pub mod Carries
--- the workings as functions that compute
+pub mod CarryWidths
+-- meeting by the method is the definition: by members (`is-meet`), and by a congruence (`met`)
+pub mod MeetMethod
+-- what a run is carried to, by its members (`is-carry`)
+pub mod CarryMembers
+-- the p with a partner in a residue class
+pub mod PartnerClass
+-- the p whose partners lie in an interval (`in-image`)
+pub mod PartnerInterval
+-- carrying by the method is the definition (`carried`), for a above 0; any equation is made one (`upright-carry`)
+pub mod CarryMethod
+-- the model of the workings is the definitions: `meet-model`, `carry-model`
 pub mod Model
--- the members of a meet and of what is carried; back and forth between two runs
-pub mod Laws
--- a run whose step may have either sign, and the same run downwards
-pub mod Turns
--- where the numbers of one run stand in another: exact quotients
-pub mod Indices
--- an equation between the runs of two families: what the family proof will ask
-pub mod Joins
--- the tests on which a working refuses, and that it refuses just there
+-- the members of a meet (`in-meet`) and of what is carried (`in-carry`), each in its one form; back and forth between two runs
+-- (`in-joined`, `back-and-forth`)
+pub mod MeetAndCarry
+-- the tests on which a working refuses say what the sentences say (`one-form-iff`, `in-limits-iff`), and it refuses just there
+-- (`meeting-unless`, `carrying-unless`)
 pub mod Refusals
--- document 01's jobs with one equation, through the definitions
+-- document 01's jobs with one equation, through the definitions: `small-jobs`, `full-job`
 pub mod Examples

@@ -1,38 +1,28 @@
--- The model: the same steps as the code, as functions that compute. `meetModel` and `carryModel` are the definitions'
--- `meet` and `carry` at runs in their one form, however long; so a meet of two thousand million numbers is worked out.
+-- `meetModel` and `carryModel` of the model are the definitions' `meet` and `carry` at runs in their one form.
 use mathlib.Core.Path.{_≡_, refl, sym, subst}
 use mathlib.Core.Bool.{Bool, true, false, cond}
 use mathlib.Core.List.{[], _∷_}
-use Prim.Native.Nat.{ℕ, zero, suc, _/_, _%_, _≤_, _<_}
+use Prim.Native.Nat.{ℕ, zero, suc, _/_, _%_, _≤_}
 use native.Mathlib.Nat.{mod-lt, zero-lt-suc}
 use lib.Dec.{eqb}
 use borrow.Author.Tests.{eqb-true, eqb-false}
 use Rattle.ints.specs.Within.{Within}
-use Rattle.ints.specs.Floor.{floorDiv, floorMod, ceilDiv}
+use Rattle.ints.specs.Floor.{floorDiv, floorMod}
 use Rattle.ints.proofs.{ℤ, pos, negsuc, negℤ, natAbs, _-ℤ_, _*ℤ_, _≤ℤ_, _<ℤ_, ltZ, arith, lin, lin₀, facts}
 use Rattle.ints.proofs.Order.{nat-nonneg, abs-nonneg}
-use Rattle.runs.specs.declared.congruence.Solutions.{Solutions}
 use Rattle.runs.specs.declared.congruence.Solutions.the-variants.{Nothing, Every}
 use Rattle.runs.specs.Run.{Run, OneForm, empty}
 use Rattle.runs.specs.Search.{meet, carry}
-use Rattle.runs.specs.Workings.{Equation, InLimits}
-use Rattle.runs.specs.Method.{IsFactor, Congruence, InReach, Solves, placesIn, meetBy, placesWithPartner, carryBy, upright}
+use Rattle.runs.specs.Workings.{Equation, CarryLimits}
+use Rattle.runs.specs.Model.{Factors, remainders, factors, solved, meetModel, carryModel}
+use Rattle.runs.specs.Method.{IsFactor, Carriable, Congruence, InReach, Solves, placesIn, meetBy, placesWithPartner, carryBy, upright}
 use Rattle.runs.proofs.Euclid.{Inv, start, step, done, turned}
-use Rattle.runs.proofs.Solving.{nothing, no-rest, every}
-use Rattle.runs.proofs.Meets.{IsMeet, is-meet, met, empty-left, empty-right, places-in-reach}
-use Rattle.runs.proofs.Carries.{IsCarry, is-carry, carried, empty-carried, places-reach, upright-limits, upright-above, upright-carry}
+use Rattle.runs.proofs.CongruenceSolutions.{nothing, no-rest, every}
+use Rattle.runs.proofs.MeetMethod.{IsMeet, is-meet, met, empty-left, empty-right, places-in-reach}
+use Rattle.runs.proofs.CarryMembers.{IsCarry, is-carry, empty-carried}
+use Rattle.runs.proofs.CarryMethod.{carried, places-reach, upright-carriable, upright-carry}
 
 -- ---- the greatest common divisor with a cofactor
-pub record Factors : Type 0 where
-  pub gcd : ℤ
-  pub cofactor : ℤ
-
--- the loop; r1 turns are enough
-unfoldable pub remainders : ℕ → ℕ → ℕ → ℤ → ℤ → Factors
-remainders zero r0 r1 s0 s1 = record { gcd = pos r0; cofactor = s0 }
-remainders (suc turns) r0 zero s0 s1 = record { gcd = pos r0; cofactor = s0 }
-remainders (suc turns) r0 (suc r1) s0 s1 = remainders turns (suc r1) (r0 % suc r1) s1 (s0 -ℤ pos (r0 / suc r1) *ℤ s1)
-
 module _ {a b : ℤ} (above : pos 0 <ℤ b) where
   remainders-are : (turns r0 r1 : ℕ) (s0 s1 : ℤ) → r1 ≤ turns → Inv a b (pos r0) (pos r1) s0 s1 →
       IsFactor a b (remainders turns r0 r1 s0 s1 .gcd) (remainders turns r0 r1 s0 s1 .cofactor)
@@ -42,12 +32,6 @@ module _ {a b : ℤ} (above : pos 0 <ℤ b) where
   remainders-are (suc turns) r0 (suc r1) s0 s1 h i =
       remainders-are turns (suc r1) (r0 % suc r1) s1 (s0 -ℤ pos (r0 / suc r1) *ℤ s1) (omega (arith, mod-lt r0 (zero-lt-suc r1)))
       (step i (lin (pos (suc r1) ∷ []) (zero-lt-suc r1) (search facts depth 20) (omega arith)))
-
--- of either sign
-unfoldable pub factors : ℤ → ℕ → Factors
-unfolding remainders
-factors (pos a) b = remainders b a b (pos 1) (pos 0)
-factors (negsuc a) b = let f = remainders b (suc a) b (pos 1) (pos 0) in record { gcd = f .gcd; cofactor = pos 0 -ℤ f .cofactor }
 
 opposite : (x : ℤ) → pos 0 -ℤ x ≡ negℤ x
 opposite x = lin₀ (x ∷ []) (search facts depth 20) (omega arith)
@@ -62,14 +46,6 @@ factors-are (negsuc a) b w above most =
     turned (subst (λ n. IsFactor n (pos b) (remainders b (suc a) b (pos 1) (pos 0) .gcd) (remainders b (suc a) b (pos 1) (pos 0) .cofactor)) (sym (opposite (negsuc a))) f)
 
 -- ---- u·i ≡ v (mod d)
-unfoldable pub solved : Congruence → Solutions
-unfolding factors
-solved s =
-    let f = factors (s .u) (natAbs (s .d)) in
-    let period = floorDiv (s .d) (f .gcd) in
-    cond (ltZ (pos 0) (floorMod (s .v) (f .gcd))) Nothing
-    (Every record { first = floorMod (floorMod (f .cofactor) period *ℤ floorMod (floorDiv (s .v) (f .gcd)) period) period; step = period })
-
 solved-is : (s : Congruence) → InReach s → Solves s (solved s)
 unfolding solved
 solved-is s h = go (ltZ (pos 0) (floorMod (s .v) (f .gcd))) refl
@@ -88,14 +64,6 @@ solved-is s h = go (ltZ (pos 0) (floorMod (s .v) (f .gcd))) refl
     go false t = every is (h .above) (s .v) (no-rest is (h .above) (s .v) (lin (floorMod (s .v) (f .gcd) ∷ []) t (search facts depth 20) (omega arith)))
 
 -- ---- the workings
-unfoldable pub meetModel : Run → Run → Run
-unfolding solved floorDiv floorMod
-meetModel a b = cond (eqb (a .many) 0) empty (cond (eqb (b .many) 0) empty (meetBy (solved (placesIn a b)) a b))
-
-unfoldable pub carryModel : Equation → Run → Run
-unfolding solved floorDiv floorMod ceilDiv
-carryModel e q = cond (eqb (q .many) 0) empty (carryBy (solved (placesWithPartner (upright e) q)) (upright e) q)
-
 some : {n : ℕ} → eqb n 0 ≡ false → 1 ≤ n
 some {n} t = let z : n ≡ 0 → ⊥ = eqb-false n 0 t in omega arith
 
@@ -112,26 +80,26 @@ meets {a} {b} o o′ = left (eqb (a .many) 0) refl
     left true t = empty-left b (eqb-true (a .many) 0 t)
     left false t = right (some t) (eqb (b .many) 0) refl
 
-carries : {e : Equation} {q : Run} → InLimits e → OneForm q → IsCarry (e .a) (e .b) (e .c) q (carryModel e q)
+carries : {e : Equation} {q : Run} → CarryLimits e → OneForm q → IsCarry (e .a) (e .b) (e .c) q (carryModel e q)
 unfolding carryModel
 carries {e} {q} lim o = go (eqb (q .many) 0) refl
   where
     go : (t : Bool) → eqb (q .many) 0 ≡ t → IsCarry (e .a) (e .b) (e .c) q (cond t empty (carryBy (solved (placesWithPartner (upright e) q)) (upright e) q))
     go true t = empty-carried (e .a) (e .b) (e .c) (eqb-true (q .many) 0 t)
     go false t =
-        upright-carry e (carried (upright-limits lim) (upright-above lim) o (some t) (solved (placesWithPartner (upright e) q))
-        (solved-is (placesWithPartner (upright e) q) (places-reach (upright-limits lim) (upright-above lim) o (some t))))
+        let k : Carriable (upright e) q = upright-carriable lim o (some t) in
+        upright-carry e (carried k (solved (placesWithPartner (upright e) q)) (solved-is (placesWithPartner (upright e) q) (places-reach k)))
 
 -- so they are the definitions
 pub meet-model : {a b : Run} → OneForm a → OneForm b → meetModel a b ≡ meet a b
 meet-model o o′ = is-meet o (meets o o′)
 
-pub carry-model : {e : Equation} {q : Run} → InLimits e → OneForm q → carryModel e q ≡ carry (e .a) (e .b) (e .c) q
+pub carry-model : {e : Equation} {q : Run} → CarryLimits e → OneForm q → carryModel e q ≡ carry (e .a) (e .b) (e .c) q
 carry-model lim o = is-carry (carries lim o)
 
 -- and the definitions have the numbers that they search for
 pub is-met : {a b : Run} → OneForm a → OneForm b → IsMeet a b (meet a b)
 is-met {a} {b} o o′ = subst (IsMeet a b) (meet-model o o′) (meets o o′)
 
-pub is-carried : {e : Equation} {q : Run} → InLimits e → OneForm q → IsCarry (e .a) (e .b) (e .c) q (carry (e .a) (e .b) (e .c) q)
+pub is-carried : {e : Equation} {q : Run} → CarryLimits e → OneForm q → IsCarry (e .a) (e .b) (e .c) q (carry (e .a) (e .b) (e .c) q)
 is-carried {e} {q} lim o = subst (IsCarry (e .a) (e .b) (e .c) q) (carry-model lim o) (carries lim o)

@@ -2,7 +2,6 @@
 use mathlib.Core.Path.{_≡_, _∙_, ap}
 use mathlib.Core.Logic.{_↔_}
 use mathlib.Core.List.{[], _∷_}
-use Prim.Native.Nat.{_≤_, _<_}
 use Rattle.ints.specs.Divides.{Congruent}
 use Rattle.ints.proofs.{ℤ, pos, natAbs, _+ℤ_, _-ℤ_, _*ℤ_, _≤ℤ_, _<ℤ_, arith, lin, _&_, facts, prod}
 use Rattle.ints.proofs.Order.{abs-nonneg, nat-nonneg}

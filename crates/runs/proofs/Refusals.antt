@@ -16,7 +16,7 @@ use Rattle.lists.specs.Keep.{every}
 use Rattle.lists.proofs.Keep.{every-iff}
 use Rattle.runs.specs.Run.{Run, numbers, InRun, OneForm, bound, isFormed, isOneForm}
 use Rattle.runs.specs.Search.{meet, carry}
-use Rattle.runs.specs.Workings.{Equation, InLimits, isCoefficient, inLimits, Answer, run, refused, RefusedUnless, meeting, carrying}
+use Rattle.runs.specs.Workings.{Equation, CarryLimits, isCoefficient, carryLimits, WorkingAnswer, run, refused, RefusedUnless, meeting, carrying}
 use Rattle.runs.specs.Method.{span}
 use Rattle.ints.specs.Divides.{Congruent}
 use Rattle.runs.proofs.Members.{in-numbers, no-place}
@@ -119,16 +119,16 @@ coefficient-iff x = Iff·trans (and-eq-true-iff (isWithin 1000000 x) (not (isEqu
         differs true h = absurd (h refl)
         differs false h = refl
 
-pub in-limits-iff : (e : Equation) → (inLimits e ≡ true) ↔ InLimits e
+pub in-limits-iff : (e : Equation) → (carryLimits e ≡ true) ↔ CarryLimits e
 in-limits-iff e = (to, from)
   where
-    split : (inLimits e ≡ true) ↔ ((isCoefficient (e .a) ≡ true) × (isCoefficient (e .b) && isWithin 2000000000000000 (e .c) ≡ true))
+    split : (carryLimits e ≡ true) ↔ ((isCoefficient (e .a) ≡ true) × (isCoefficient (e .b) && isWithin 2000000000000000 (e .c) ≡ true))
     split = and-eq-true-iff (isCoefficient (e .a)) (isCoefficient (e .b) && isWithin 2000000000000000 (e .c))
 
     rest : (isCoefficient (e .b) && isWithin 2000000000000000 (e .c) ≡ true) ↔ ((isCoefficient (e .b) ≡ true) × (isWithin 2000000000000000 (e .c) ≡ true))
     rest = and-eq-true-iff (isCoefficient (e .b)) (isWithin 2000000000000000 (e .c))
 
-    to : inLimits e ≡ true → InLimits e
+    to : carryLimits e ≡ true → CarryLimits e
     to t =
         let (a, bc) = split .0 t in
         let (b, c) = rest .0 bc in
@@ -136,7 +136,7 @@ in-limits-iff e = (to, from)
         let (lb, nb) = coefficient-iff (e .b) .0 b in
         record { left = la; left-not-zero = na; right = lb; right-not-zero = nb; constant = within-true 2000000000000000 (e .c) .0 c }
 
-    from : InLimits e → inLimits e ≡ true
+    from : CarryLimits e → carryLimits e ≡ true
     from k = split .1 (
       coefficient-iff (e .a) .1 (k .left, k .left-not-zero),
       rest .1 (coefficient-iff (e .b) .1 (k .right, k .right-not-zero), within-true 2000000000000000 (e .c) .1 (k .constant)),
@@ -156,19 +156,19 @@ meeting-refuses a b h = go (isOneForm a && isOneForm b) refl
     go true t = let (u, v) = and-eq-true-iff (isOneForm a) (isOneForm b) .0 t in absurd (h (one-form-iff a .0 u, one-form-iff b .0 v))
     go false t = refl
 
-pub carrying-gives : {e : Equation} {q : Run} → InLimits e → OneForm q → carrying e q ≡ run (carry (e .a) (e .b) (e .c) q)
+pub carrying-gives : {e : Equation} {q : Run} → CarryLimits e → OneForm q → carrying e q ≡ run (carry (e .a) (e .b) (e .c) q)
 carrying-gives {e} {q} k o = rw (in-limits-iff e .1 k, one-form-iff q .1 o) refl
 
-pub carrying-refuses : (e : Equation) (q : Run) → ¬ (InLimits e × OneForm q) → carrying e q ≡ refused 9 0
-carrying-refuses e q h = go (inLimits e && isOneForm q) refl
+pub carrying-refuses : (e : Equation) (q : Run) → ¬ (CarryLimits e × OneForm q) → carrying e q ≡ refused 9 0
+carrying-refuses e q h = go (carryLimits e && isOneForm q) refl
   where
-    go : (t : Bool) → inLimits e && isOneForm q ≡ t → cond t (run (carry (e .a) (e .b) (e .c) q)) (refused 9 0) ≡ refused 9 0
-    go true t = let (u, v) = and-eq-true-iff (inLimits e) (isOneForm q) .0 t in absurd (h (in-limits-iff e .0 u, one-form-iff q .0 v))
+    go : (t : Bool) → carryLimits e && isOneForm q ≡ t → cond t (run (carry (e .a) (e .b) (e .c) q)) (refused 9 0) ≡ refused 9 0
+    go true t = let (u, v) = and-eq-true-iff (carryLimits e) (isOneForm q) .0 t in absurd (h (in-limits-iff e .0 u, one-form-iff q .0 v))
     go false t = refl
 
 -- the same in one: refused exactly when the arguments are not lawful
-pub meeting-unless : {a b : Run} {x : Answer} → x ≡ meeting a b → RefusedUnless (OneForm a × OneForm b) x
+pub meeting-unless : {a b : Run} {x : WorkingAnswer} → x ≡ meeting a b → RefusedUnless (OneForm a × OneForm b) x
 meeting-unless {a} {b} {x} e = (λ z p. not-both (sym (meeting-gives (p .0) (p .1)) ∙ sym e ∙ z), λ h. e ∙ meeting-refuses a b h)
 
-pub carrying-unless : {e : Equation} {q : Run} {x : Answer} → x ≡ carrying e q → RefusedUnless (InLimits e × OneForm q) x
+pub carrying-unless : {e : Equation} {q : Run} {x : WorkingAnswer} → x ≡ carrying e q → RefusedUnless (CarryLimits e × OneForm q) x
 carrying-unless {e} {q} {x} is = (λ z p. not-both (sym (carrying-gives (p .0) (p .1)) ∙ sym is ∙ z), λ h. is ∙ carrying-refuses e q h)

@@ -8,5 +8,7 @@ pub mod Search
 pub mod Workings
 -- the method: residue classes, a congruence, the greatest common divisor (what inner functions promise)
 pub mod Method
+-- meeting and carrying as functions that compute (nothing here has to be believed)
+pub mod Model
 -- the definitions and the method at worked values
 pub mod Values

@@ -3,15 +3,15 @@
 -- two runs meet, and a run is carried, where a congruence is solved and an interval is clipped.
 use mathlib.Core.Logic.{_↔_}
 use mathlib.Core.Bool.{cond}
-use Prim.Native.Nat.{ℕ, zero, suc}
+use Prim.Native.Nat.{ℕ, zero, suc, _≤_}
 use lib.IntN.{ℤ, pos, negℤ, natAbs, _+ℤ_, _-ℤ_, _*ℤ_}
 use lib.Signed.{_≤ℤ_, _<ℤ_, ltZ}
 use Rattle.ints.specs.Within.{Within}
 use Rattle.ints.specs.Floor.{floorDiv, floorMod, ceilDiv}
-use Rattle.ints.specs.Divides.{_∣ℤ_, Congruent, IsGcd}
+use Rattle.ints.specs.Divides.{Congruent, IsGcd}
 use Rattle.ints.specs.Division.{limit}
-use Rattle.runs.specs.Run.{Run, empty, full, bound}
-use Rattle.runs.specs.Workings.{Equation}
+use Rattle.runs.specs.Run.{Run, OneForm, empty, full, bound}
+use Rattle.runs.specs.Workings.{Equation, CarryLimits}
 pub use Rattle.runs.specs.declared.class.Class.{Class}
 pub use Rattle.runs.specs.declared.class.Interval.{Interval}
 pub use Rattle.runs.specs.declared.congruence.Congruence.{Congruence}
@@ -56,7 +56,7 @@ abbrev pub common : Interval → Interval → Interval
 common i j = record { low = greater (i .low) (j .low); high = smaller (i .high) (j .high) }
 
 -- ---- a run of one number or more: a class from a lowest to a highest number
--- the step, and 1 where there is a single number
+-- the step, and 1 where there is a single number: for that any modulus will do, and it needs no case of its own
 abbrev pub strideOf : ℤ → ℕ → ℤ
 strideOf step zero = step
 strideOf step (suc zero) = pos 1
@@ -71,12 +71,12 @@ span r = record { low = r .first; high = r .first +ℤ r .step *ℤ (pos (r .man
 
 -- ---- the members of a class in an interval
 -- the lowest that is not below it
-abbrev pub lowest : Class → Interval → ℤ
-lowest c i = i .low +ℤ floorMod (c .first -ℤ i .low) (c .step)
+abbrev pub lowestIn : Class → Interval → ℤ
+lowestIn c i = i .low +ℤ floorMod (c .first -ℤ i .low) (c .step)
 
 -- how many steps from there to the highest
 abbrev pub steps : Class → Interval → ℤ
-steps c i = floorDiv (i .high -ℤ lowest c i) (c .step)
+steps c i = floorDiv (i .high -ℤ lowestIn c i) (c .step)
 
 -- the run of n + 1 numbers in its one form
 abbrev pub progression : ℤ → ℤ → ℕ → Run
@@ -84,7 +84,7 @@ progression first step zero = record { first = first; step = pos 0; many = 1 }
 progression first step (suc n) = record { first = first; step = step; many = suc (suc n) }
 
 abbrev pub clip : Class → Interval → Run
-clip c i = cond (ltZ (i .high) (lowest c i)) empty (progression (lowest c i) (c .step) (natAbs (steps c i)))
+clip c i = cond (ltZ (i .high) (lowestIn c i)) empty (progression (lowestIn c i) (c .step) (natAbs (steps c i)))
 
 -- where this stays within 64 bits, and its numbers within ±1,000,000,000
 pub record Clippable (c : Class) (i : Interval) : Type 0 where
@@ -113,43 +113,46 @@ abbrev pub meetBy : Solutions → Run → Run → Run
 meetBy Nothing a b = empty
 meetBy (Every i) a b = clip (numbersAt a i) (common (span a) (span b))
 
--- ---- carrying, for an equation with a above 0
+-- ---- carrying, for an equation with a above 0 and a run of one number or more
+pub record Carriable (e : Equation) (q : Run) : Type 0 where
+  pub limits : CarryLimits e
+  pub above : pos 0 <ℤ e .a
+  pub form : OneForm q
+  pub some : 1 ≤ q .many
+
 -- a·p, by its partner q
-abbrev pub value : Equation → ℤ → ℤ
-value e q = e .c -ℤ e .b *ℤ q
+abbrev pub partnerValue : Equation → ℤ → ℤ
+partnerValue e q = e .c -ℤ e .b *ℤ q
 
 -- the places j of the q = first + stride·j for which that is divisible by a
 abbrev pub placesWithPartner : Equation → Run → Congruence
-placesWithPartner e q = record { u = e .b *ℤ stride q; v = value e (q .first); d = e .a }
+placesWithPartner e q = record { u = e .b *ℤ stride q; v = partnerValue e (q .first); d = e .a }
 
 -- from one p to the next, where q moves by a stride and has a partner once a period
-abbrev pub stepOf : Equation → ℤ → ℤ → ℤ
-stepOf e stride period = floorDiv (pos (natAbs (e .b)) *ℤ stride) (floorDiv (e .a) period)
+abbrev pub stepOf : Equation → Run → Class → ℤ
+stepOf e q j = floorDiv (pos (natAbs (e .b)) *ℤ stride q) (floorDiv (e .a) (j .step))
 
--- where that can be worked out
-pub record Period (e : Equation) (stride period : ℤ) : Type 0 where
-  pub stride-above : pos 0 <ℤ stride
-  pub stride-small : stride ≤ℤ pos 2000000000
-  pub a-above : pos 0 <ℤ e .a
-  pub above : pos 0 <ℤ period
-  pub divides : period ∣ℤ e .a
-
+-- the class of the p whose partners are at those places
 abbrev pub partners : Equation → Run → Class → Class
-partners e q j = record { first = floorDiv (value e (numbersAt q j .first)) (e .a); step = stepOf e (stride q) (j .step) }
+partners e q j = record { first = floorDiv (partnerValue e (numbersAt q j .first)) (e .a); step = stepOf e q j }
 
 -- the p between the partners of two q: the low end is rounded up, the high end down
 abbrev pub between : Equation → ℤ → ℤ → Interval
-between e q q′ = record { low = ceilDiv (value e q) (e .a); high = floorDiv (value e q′) (e .a) }
+between e q q′ = record { low = ceilDiv (partnerValue e q) (e .a); high = floorDiv (partnerValue e q′) (e .a) }
 
 -- the p whose partners lie in an interval; a positive b turns low and high round
 abbrev pub image : Equation → Interval → Interval
 image e i = cond (ltZ (pos 0) (e .b)) (between e (i .high) (i .low)) (between e (i .low) (i .high))
 
+-- the p within the range whose partners lie from the first to the last number of a run
+abbrev pub imageInRange : Equation → Run → Interval
+imageInRange e q = common (image e (span q)) (span full)
+
 abbrev pub carryBy : Solutions → Equation → Run → Run
 carryBy Nothing e q = empty
 carryBy (Every j) e q =
     cond (ltZ (span q .high) (numbersAt q j .first)) empty
-    (clip (partners e q j) (common (image e (span q)) (span full)))
+    (clip (partners e q j) (imageInRange e q))
 
 -- the same equation with a above 0
 abbrev pub upright : Equation → Equation

@@ -1,5 +1,5 @@
 -- Meeting and carrying as exhaustive search. `runOf` reads a run off any list; that the lists here are runs, and so the
--- numbers of `meet` and `carry` just those that are searched for, is proved: `in-meet` and `in-carry` (proofs/Laws.antt).
+-- numbers of `meet` and `carry` just those that are searched for, is proved: `in-meet` and `in-carry` (proofs/MeetAndCarry.antt).
 use mathlib.Core.Path.{_≡_}
 use mathlib.Core.Bool.{Bool}
 use mathlib.Core.List.{List, [], _∷_}
@@ -31,7 +31,7 @@ unfoldable pub hasPartner : ℤ → ℤ → ℤ → Run → ℤ → Bool
 unfolding any numbers
 hasPartner a b c r p = any (λ q. isEqual (a *ℤ p +ℤ b *ℤ q) c) (numbers r)
 
--- the same with quantifiers (proofs/Carries.antt: the two agree)
+-- the same with quantifiers (proofs/CarryMembers.antt: the two agree)
 pub record Partner (a b c : ℤ) (r : Run) (p : ℤ) : Type 0 where
   pub q : ℤ
   pub member : InRun r q

@@ -14,21 +14,21 @@ use Rattle.runs.specs.declared.Working.{Working}
 use Rattle.runs.specs.declared.Working.the-variants.{Gives, Refused}
 
 -- an answer in document 01's terms: a run, or refused with a reason and a row
-pub data Answer : Type 0 where
-  run : Run → Answer
-  refused : ℕ → ℕ → Answer
+pub data WorkingAnswer : Type 0 where
+  run : Run → WorkingAnswer
+  refused : ℕ → ℕ → WorkingAnswer
 
 -- what each case of the program's enum says
-abbrev pub answerOf : Working → Answer
-answerOf (Gives r) = run r
-answerOf (Refused r) = refused (numberOf r) (rowOf r)
+abbrev pub workingAnswerOf : Working → WorkingAnswer
+workingAnswerOf (Gives r) = run r
+workingAnswerOf (Refused r) = refused (numberOf r) (rowOf r)
 
 -- reason 9, row 0: exactly when P does not hold
-abbrev pub RefusedUnless : Type 0 → Answer → Type 0
+abbrev pub RefusedUnless : Type 0 → WorkingAnswer → Type 0
 RefusedUnless P x = (x ≡ refused 9 0) ↔ (¬ P)
 
 -- "a and b are 1 to 1,000,000 in size with either sign, c lies within ±2,000,000,000,000,000"
-pub record InLimits (e : Equation) : Type 0 where
+pub record CarryLimits (e : Equation) : Type 0 where
   pub left : Within 1000000 (e .a)
   pub left-not-zero : e .a ≢ pos 0
   pub right : Within 1000000 (e .b)
@@ -39,13 +39,13 @@ pub record InLimits (e : Equation) : Type 0 where
 abbrev pub isCoefficient : ℤ → Bool
 isCoefficient x = isWithin 1000000 x && not (isEqual x (pos 0))
 
-abbrev pub inLimits : Equation → Bool
-inLimits e = isCoefficient (e .a) && (isCoefficient (e .b) && isWithin 2000000000000000 (e .c))
+abbrev pub carryLimits : Equation → Bool
+carryLimits e = isCoefficient (e .a) && (isCoefficient (e .b) && isWithin 2000000000000000 (e .c))
 
 -- two runs in their one form meet; otherwise reason 9
-abbrev pub meeting : Run → Run → Answer
+abbrev pub meeting : Run → Run → WorkingAnswer
 meeting a b = cond (isOneForm a && isOneForm b) (run (meet a b)) (refused 9 0)
 
 -- a run of q in its one form is carried by an equation within its limits; otherwise reason 9
-abbrev pub carrying : Equation → Run → Answer
-carrying e q = cond (inLimits e && isOneForm q) (run (carry (e .a) (e .b) (e .c) q)) (refused 9 0)
+abbrev pub carrying : Equation → Run → WorkingAnswer
+carrying e q = cond (carryLimits e && isOneForm q) (run (carry (e .a) (e .b) (e .c) q)) (refused 9 0)

@@ -2,7 +2,7 @@
 
 ghost use mathlib.Core.Path.{_≡_};
 ghost use Rattle.runs.specs.Method.{greater, smaller, common, Clippable, clip, progression};
-ghost use Prim.Native.Nat.{ℕ, _≤_};
+ghost use Prim.Native.Nat.{_≤_};
 use crate::Run;
 
 /// The whole numbers first + step·k for every whole k.

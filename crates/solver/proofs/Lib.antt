@@ -1,26 +1,22 @@
 -- The laws that the proofs of the functions go by.
 
--- a pass over an array
-pub mod Passes
 -- two labels that become one
-pub mod Merging
--- how many numbers pass a test
-pub mod Counting
--- whether an equation joins two sets
-pub mod Joining
--- the lowest variables of the groups, one after the other
-pub mod Leads
+pub mod MergedLabels
+-- whether an equation joins two sets: the program's test tells just that (`joins-told`)
+pub mod JoinTest
+-- the lowest variables of the components, one after the other
+pub mod LowestVariables
 -- 64 bits hold what is made of the numbers of a family
-pub mod Sizes
+pub mod In64Bits
 -- how large the numbers are through which an equation between two families goes
-pub mod Meeting
--- the arrays follow the model
-pub mod Stepping
--- a job with other bounds
-pub mod Rebounding
+pub mod JoinWidths
+-- the arrays follow the model, equation by equation (`Follows`, `follows-reduced`), to the families (`follows-end`)
+pub mod CodeFollowsModel
+-- with the bounds in its rows a job is the job itself: `own-bounds`
+pub mod OwnBounds
 -- the rows of a lawful job
-pub mod Rows
+pub mod LawfulRows
 -- the arrays follow the model, for bytes and bounds
-pub mod Following
--- a job that the check accepts
-pub mod Accepting
+pub mod FollowsWithBounds
+-- a job that the check accepts is lawful (`accepts`), and what is read of it is its own (`counted`, `bounded`)
+pub mod AcceptedJob

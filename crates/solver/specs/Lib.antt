@@ -1,13 +1,13 @@
 -- What the contracts of the solver cite. Read in this order.
 
--- what an array holds
-pub mod Arrays
--- what is promised of the state: each variable's group and family
-pub mod Analysis
--- the job with other bounds
-pub mod Bounds
--- groups as a list of labels
-pub mod Groups
+-- what the arrays of the state say
+pub mod StateArrays
+-- what is promised of the state: each variable's component and family
+pub mod Families
+-- the variables' rows in arrays, and what the variables begin with
+pub mod VariableArrays
+-- components as a list of labels
+pub mod Labels
 -- what the program's enums and structs of one step say
 pub mod Steps
 -- how large the numbers are

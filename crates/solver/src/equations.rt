@@ -2,24 +2,24 @@
 
 ghost use mathlib.Core.Path.{_≡_};
 ghost use Prim.Native.Nat.{_≤_, _<_};
-ghost use Rattle.runs.specs.Workings.{InLimits};
-ghost use Rattle.runs.proofs.Turns.{FamilyRun};
+ghost use Rattle.runs.specs.Workings.{CarryLimits};
+ghost use Rattle.families.specs.FamilyRun.{FamilyRun};
 ghost use Rattle.jobs.specs.Job.{jobOf, variableCount, equationCount};
-ghost use Rattle.jobs.proofs.Lawful.{Lawful};
+ghost use Rattle.jobs.specs.Lawful.{Lawful};
 ghost use Rattle.families.specs.Model.{kept, runAfter};
-ghost use Rattle.solver.specs.Analysis.{Families};
-ghost use Rattle.solver.specs.Bounds.{withBounds, BoundedBy};
-ghost use Rattle.solver.specs.Groups.{Labelled};
+ghost use Rattle.solver.specs.Families.{Families};
+ghost use Rattle.jobs.specs.Bounds.{withBounds, BoundedBy};
+ghost use Rattle.solver.specs.Labels.{Labelled};
 ghost use Rattle.solver.specs.Steps.{keptBy, indicesBy, Reducible, Reduces};
-use crate::Bounds;
 use crate::State;
+use crate::components;
 use crate::cycle;
 use crate::cycle::Remains;
-use crate::groups;
 use crate::join;
 use crate::join::Indices;
 use crate::parts;
 use crate::range;
+use jobs::Bounds;
 use jobs::Equation;
 use runs::Run;
 
@@ -37,41 +37,41 @@ pub fn families(job: &[u8], bounds: [Bounds; 256], n: usize, m: usize) -> State
     requires { ⌜ BoundedBy bounds n ⌝ }
     ensures { λ r. ⌜ Families (withBounds (jobOf (now (job .entry))) bounds) r ⌝ }
 {
-    let mut groups = groups::apart();
+    let mut labels = components::apart();
     let mut runs = range::start(bounds, n);
     let mut k: usize = 0;
     while k < m {
         let e = Equation::read(job, n, k);
         let left = e.left;
         let right = e.right;
-        let l = groups[left];
-        let r = groups[right];
+        let l = labels[left];
+        let r = labels[right];
         let p = runs[left];
         let q = runs[right];
         let kept = leaves(e.form(), l, r, p, q);
         match kept {
             Kept::All => {}
             Kept::At(i) => {
-                runs = keep(runs, groups, l, r, i, n);
-                groups = groups::joined(groups, l, r, n);
+                runs = keep(runs, labels, l, r, i, n);
+                labels = components::joined(labels, l, r, n);
             }
         }
         k += 1;
     }
     State {
-        groups: groups,
+        labels: labels,
         runs: runs,
     }
 }
 
-// What an equation between variables of the groups l and r, which have the runs p and q, leaves of their families.
+// What an equation between variables of the components l and r, which have the runs p and q, leaves of their families.
 fn leaves(e: runs::Equation, l: u16, r: u16, p: Run, q: Run) -> Kept
-    requires { ⌜ InLimits e ⌝ }
+    requires { ⌜ CarryLimits e ⌝ }
     requires { ⌜ FamilyRun p ⌝ }
     requires { ⌜ FamilyRun q ⌝ }
     ensures { λ i. ⌜ keptBy i ≡ kept e l r p q ⌝ }
 {
-    if groups::joins(l, r) {
+    if components::joins(l, r) {
         return Kept::At(join::between(e, p, q, l < r));
     }
     let remains = cycle::inside(e, p, q);
@@ -81,26 +81,26 @@ fn leaves(e: runs::Equation, l: u16, r: u16, p: Run, q: Run) -> Kept
     }
 }
 
-// The runs of n variables, of which those in the groups l and r keep the members at their indices. No variable before the
+// The runs of n variables, of which those in the components l and r keep the members at their indices. No variable before the
 // lower of their lowest is in either.
-fn keep(runs: [Run; 256], groups: [u16; 256], l: u16, r: u16, kept: Indices, n: usize) -> [Run; 256]
+fn keep(runs: [Run; 256], labels: [u16; 256], l: u16, r: u16, kept: Indices, n: usize) -> [Run; 256]
     requires { ⌜ n ≤ 256 ⌝ }
     requires { ⌜ l < n ⌝ }
-    requires { ⌜ Labelled groups n ⌝ }
-    requires { ⌜ Reducible runs groups l r kept n ⌝ }
-    ensures { λ q. ⌜ Reduces runs groups l r kept n q ⌝ }
+    requires { ⌜ Labelled labels n ⌝ }
+    requires { ⌜ Reducible runs labels l r kept n ⌝ }
+    ensures { λ q. ⌜ Reduces runs labels l r kept n q ⌝ }
 {
     let mut out = runs;
-    let mut i: usize = groups::lower(l, r) as usize;
+    let mut i: usize = components::lower(l, r) as usize;
     while i < n {
         let run = runs[i];
-        out[i] = part(run, groups[i], l, r, kept);
+        out[i] = part(run, labels[i], l, r, kept);
         i += 1;
     }
     out
 }
 
-// The run of a variable in the group g after that.
+// The run of a variable in the component g after that.
 fn part(run: Run, g: u16, l: u16, r: u16, kept: Indices) -> Run
     requires { ⌜ FamilyRun run ⌝ }
     requires { ⌜ FamilyRun (runAfter l r (indicesBy kept) g run) ⌝ }

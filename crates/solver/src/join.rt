@@ -1,13 +1,12 @@
-//! An equation between two groups: which members of the two families go together.
+//! An equation between two components: which members of the two families go together.
 
 ghost use mathlib.Core.Path.{_≡_};
 ghost use lib.IntN.{_-ℤ_, _*ℤ_};
 ghost use Rattle.ints.specs.Within.{Within};
 ghost use Rattle.ints.specs.Floor.{floorDiv};
-ghost use Rattle.runs.specs.Workings.{InLimits};
+ghost use Rattle.runs.specs.Workings.{CarryLimits};
 ghost use Rattle.runs.specs.Search.{meet, carry};
-ghost use Rattle.runs.proofs.Turns.{FamilyRun, upward};
-ghost use Rattle.runs.proofs.Indices.{ratio, across};
+ghost use Rattle.families.specs.FamilyRun.{FamilyRun, upward, ratio, across};
 ghost use Rattle.families.specs.Model.{indicesIn, leading, directed, join};
 ghost use Rattle.solver.specs.Widths.{Turnable, Crossable};
 ghost use Rattle.solver.specs.Steps.{indicesBy};
@@ -22,10 +21,10 @@ pub struct Indices {
     pub right: Run,
 }
 
-// The members of the two families for which the equation holds. `leads` says that the left variable's group has the lower
+// The members of the two families for which the equation holds. `leads` says that the left variable's component has the lower
 // lowest variable, which is that of both together and must rise.
 pub(crate) fn between(e: Equation, p: Run, q: Run, leads: bool) -> Indices
-    requires { ⌜ InLimits e ⌝ }
+    requires { ⌜ CarryLimits e ⌝ }
     requires { ⌜ FamilyRun p ⌝ }
     requires { ⌜ FamilyRun q ⌝ }
     ensures { λ r. ⌜ indicesBy r ≡ join e p q (meet (upward p) (carry (e .a) (e .b) (e .c) (upward q))) leads ⌝ }
@@ -69,7 +68,7 @@ fn ratio(n: i64, d: i64) -> i64
 
 // The partners q of the numbers p of a run, with a·p + b·q = c. The steps go together as the numbers do, with 0 for c.
 fn across(e: Equation, r: Run) -> Run
-    requires { ⌜ InLimits e ⌝ }
+    requires { ⌜ CarryLimits e ⌝ }
     requires { ⌜ Crossable r ⌝ }
     ensures { λ q. ⌜ q ≡ across (e .a) (e .b) (e .c) r ⌝ }
 {
@@ -87,7 +86,7 @@ fn across(e: Equation, r: Run) -> Run
 
 // The partner of p, where there is a whole one.
 fn partner(e: Equation, p: i64) -> i64
-    requires { ⌜ InLimits e ⌝ }
+    requires { ⌜ CarryLimits e ⌝ }
     requires { ⌜ Within 2000000000 p ⌝ }
     ensures { λ q. ⌜ q ≡ floorDiv (e .c -ℤ e .a *ℤ p) (e .b) ⌝ }
 {
@@ -95,7 +94,7 @@ fn partner(e: Equation, p: i64) -> i64
 }
 
 impl Indices {
-    // In the direction in which the new lowest variable rises. The lowest variables of both groups rise with their indices.
+    // In the direction in which the new lowest variable rises. The lowest variables of both components rise with their indices.
     fn directed(self, leads: bool) -> Indices
         requires { ⌜ Turnable (self .left) ⌝ }
         requires { ⌜ Turnable (self .right) ⌝ }

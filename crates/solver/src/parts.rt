@@ -1,7 +1,7 @@
 //! Parts of a family, and families the other way round.
 
 ghost use mathlib.Core.Path.{_≡_};
-ghost use Rattle.runs.proofs.Turns.{FamilyRun, turned, upward};
+ghost use Rattle.families.specs.FamilyRun.{FamilyRun, turned, upward};
 ghost use Rattle.families.specs.Model.{through};
 ghost use Rattle.solver.specs.Widths.{Turnable};
 use runs::Run;

@@ -1,20 +1,16 @@
-//! Runs the job check: every reason and every limit of document 01's table, the order of its lines, then some thousands of
-//! damaged jobs against a second reading of the table. The expected output is not taken from the program: it was worked out
-//! from document 01, that of the damaged jobs too, which their seed settles.
+//! Runs the job check: every reason and every limit of document 01's table, and the order of its lines. Standard input is printed as it
+//! is, with the check's answer in the place of each job. The expected output is not taken from the program: it was worked out from
+//! document 01.
 
-// what the check answers
-mod outcome;
-// jobs without a fault
+// numbers written as text
+mod text;
+// the job of some numbers
 mod job;
-// the second reading of the table
-mod table;
-// every limit, just inside and just outside, and the order
-mod vectors;
-// damaged jobs
-mod damaged;
+// what is printed
+mod report;
 
 fn main() {
-    let mut buffer = [0u8; 23608];
-    vectors::all(&mut buffer);
-    damaged::all(&mut buffer);
+    let mut text = [0u8; 16384];
+    let length = report::read(&mut text);
+    report::run(&text[..length]);
 }

@@ -3,7 +3,7 @@
 //! 101 × 24 small and 20,000 pseudo-random pairs.
 
 ghost use Prim.Native.Nat.{_*_, _≤_};
-ghost use Rattle.ints.specs.Division.{InLimits};
+ghost use Rattle.ints.specs.Division.{DivisionLimits};
 use ints::Division;
 
 fn main() {
@@ -61,24 +61,21 @@ fn show(n: i64, d: i64) {
 }
 
 // How many of the first pairs agree: the small ones, or the pseudo-random ones.
-fn agreeing(small: bool, pairs: u64) -> u64
-    requires { ⌜ pairs ≤ 1000000 ⌝ }
-{
+fn agreeing(small: bool, pairs: u64) -> u64 {
     let mut agree: u64 = 0;
     let mut seed: u64 = 88172645463325252;
     let mut i: u64 = 0;
     while i < pairs {
-        agree += pair(small, i, seed);
+        if agrees_at(small, i, seed) {
+            agree = std::num::wrapping_add_u64(agree, 1);
+        }
         seed = next(next(seed));
         i += 1;
     }
     agree
 }
 
-// 1 where pair i agrees, else 0.
-fn pair(small: bool, i: u64, seed: u64) -> u64
-    ensures { λ r. ⌜ r ≤ 1 ⌝ }
-{
+fn agrees_at(small: bool, i: u64, seed: u64) -> bool {
     if small {
         return small_pair(i);
     }
@@ -86,20 +83,16 @@ fn pair(small: bool, i: u64, seed: u64) -> u64
 }
 
 // In turn each dividend from -50 to 50 by each divisor from -12 to 12; a divisor of 0 does not count.
-fn small_pair(i: u64) -> u64
-    ensures { λ r. ⌜ r ≤ 1 ⌝ }
-{
+fn small_pair(i: u64) -> bool {
     let d = centred(i % 25, 12);
     if d == 0 {
-        return 0;
+        return false;
     }
     agrees(centred(i / 25 % 101, 50), d)
 }
 
 // Sizes by i, numbers by the seed; a divisor of 0 is taken for -1.
-fn random_pair(i: u64, seed: u64) -> u64
-    ensures { λ r. ⌜ r ≤ 1 ⌝ }
-{
+fn random_pair(i: u64, seed: u64) -> bool {
     let n = random(seed, i % 5);
     let d = random(next(seed), i / 5 % 5);
     if d == 0 {
@@ -140,27 +133,25 @@ fn centred(x: u64, most: u64) -> i64
     x as i64 - most as i64
 }
 
-// 1 where the quotient of n by d is the floor; else 0, and the pair is printed.
-fn agrees(n: i64, d: i64) -> u64
-    ensures { λ r. ⌜ r ≤ 1 ⌝ }
-{
+// Is the quotient of n by d the floor? If not, the pair is printed.
+fn agrees(n: i64, d: i64) -> bool {
     match ints::divide(n, d) {
         Division::Quotient(q) => {
             if is_floor(n, d, q) {
-                return 1;
+                return true;
             }
         }
         Division::Refused(_) => {}
     }
     print::text(b"disagree: ");
     show(n, d);
-    0
+    false
 }
 
 // The inequality that defines the floor: d·q is the last multiple of d that is not past n. Nothing is taken for granted of
 // q: one that is too large for a floor is not multiplied.
 fn is_floor(n: i64, d: i64, q: i64) -> bool
-    requires { ⌜ InLimits n d ⌝ }
+    requires { ⌜ DivisionLimits n d ⌝ }
 {
     if ints::size(n) / ints::size(d) + 1 < ints::size(q) {
         return false;

@@ -9,24 +9,16 @@ pub struct Answer {
     pub row: u16,
 }
 
-const PLANNED: u8 = 0;
+pub const PLANNED: u8 = 0;
 
-const NO_FIT: u8 = 1;
+pub const NO_FIT: u8 = 1;
 
-const REFUSED: u8 = 2;
+pub const REFUSED: u8 = 2;
 
-pub(crate) fn planned(worth: u64) -> Answer {
+pub(crate) fn new(kind: u8, value: u64) -> Answer {
     Answer {
-        kind: PLANNED,
-        value: worth,
-        row: 0,
-    }
-}
-
-pub(crate) fn no_fit(variable: u16) -> Answer {
-    Answer {
-        kind: NO_FIT,
-        value: variable as u64,
+        kind: kind,
+        value: value,
         row: 0,
     }
 }
@@ -43,54 +35,46 @@ pub(crate) fn refused(reason: u16, row: u16) -> Answer {
 pub(crate) fn of(job: &[u8], area: &mut [u8]) -> Answer {
     let outcome = planner::plan(job, area);
     match outcome {
-        Outcome::Planned(worth) => planned(build::bits(worth)),
-        Outcome::NoFit(variable) => no_fit(variable),
+        Outcome::Planned(worth) => new(PLANNED, residue(worth)),
+        Outcome::NoFit(variable) => new(NO_FIT, variable as u64),
         Outcome::Refused(reason) => refused(reason.number(), reason.row()),
     }
 }
 
+// In two's complement.
+fn residue(x: i64) -> u64 {
+    if x < 0 {
+        return std::num::wrapping_sub_u64(0, ints::size(x));
+    }
+    ints::size(x)
+}
+
 impl Answer {
-    pub(crate) fn is_planned(self) -> bool {
-        self.kind == PLANNED
-    }
-
     pub(crate) fn equals(self, other: Answer) -> bool {
-        if self.kind != other.kind {
-            return false;
-        }
-        if self.value != other.value {
-            return false;
-        }
-        self.row == other.row
-    }
-
-    pub(crate) fn show(self) {
-        let kind = self.kind;
-        match kind {
-            PLANNED => {
-                print::text(b"planned ");
-                show_bits(self.value);
-            }
-            NO_FIT => {
-                print::text(b"no fit at count ");
-                print::count(self.value);
-            }
-            _ => {
-                print::text(b"refused ");
-                print::count(self.value);
-                print::text(b" row ");
-                print::count(self.row as u64);
+        if self.kind == other.kind {
+            if self.value == other.value {
+                return self.row == other.row;
             }
         }
+        false
     }
 }
 
-// A number in two's complement.
-fn show_bits(x: u64) {
-    if x < 9223372036854775808 {
-        print::count(x);
-    } else {
-        print::text(b"-");
-        print::count(std::num::wrapping_sub_u64(0, x));
+/// What is expected of a job: the answer, and the length of its sheet, which stands in the buffer if it has one.
+pub struct Expected {
+    pub answer: Answer,
+    pub length: u32,
+}
+
+impl Expected {
+    /// In an area of that size: too short is reason 8, also where there is no fit, but after reasons 1 to 7.
+    pub(crate) fn within(self, size: u32) -> Answer {
+        let answer = self.answer;
+        if size < self.length {
+            if answer.kind != REFUSED {
+                return refused(8, 0);
+            }
+        }
+        answer
     }
 }

@@ -1,28 +1,28 @@
-//! Runs the planner. Jobs of document 01 are held to sheets that were worked out by hand; some thousands of pseudo-random ones to a plain
-//! search through all lists of numbers, each with an area just long enough, a longer one and one that is a byte too short. What is
-//! compared is the outcome, and every byte of the area and of those behind it. Each difference stands on a line of its own.
+//! Runs the planner. The jobs on standard input are held to what was worked out by hand, or where they are small to a plain search
+//! through all lists of numbers, and so are some thousands of pseudo-random ones. Each is planned in an area that is just long enough,
+//! in a longer one, and in one that is a byte too short. What is compared is the outcome, and every byte of the area and of those behind
+//! it. A job that differs is named in its family's line.
 
+// the bytes of jobs and sheets
+mod format;
+// jobs written as text
+mod text;
+// the job of a line, and what it expects
+mod line;
+// jobs of 256 variables
+mod wide;
 // what the planner answers
 mod answer;
-// sheets as document 01 lays them out
-mod sheet;
-// a job with an area
+// a job in three areas
 mod trial;
 // the plain search
 mod search;
-// the sheet that it finds
-mod rows;
-// jobs of document 01, by hand
-mod vectors;
-// what kinds of jobs there are
-mod kinds;
 // pseudo-random jobs
-mod sweep;
+mod random;
+// the table of jobs
+mod table;
 
 fn main() {
-    let mut job = [0u8; 23608];
-    let mut area = [0u8; 23608];
-    let mut expected = [0u8; 23608];
-    vectors::all(&mut job, &mut area, &mut expected);
-    sweep::all(&mut job, &mut area, &mut expected);
+    let mut b: format::Buffer = [0; 32896];
+    table::all(&mut b);
 }

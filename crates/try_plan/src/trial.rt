@@ -1,84 +1,56 @@
-//! A job with an area: the outcome, and every byte of the area and some behind it.
+//! A job in three areas: the outcome, and every byte of the area and some behind it.
 
 use crate::answer;
 use crate::answer::Answer;
-use crate::sheet;
-use crate::sheet::byte;
-use build::Buffer;
+use crate::answer::Expected;
+use crate::format::Buffer;
+use crate::format::SHEET;
+use crate::format::byte;
+use crate::format::store;
 
-/// The job's number among its kind, its length, the area's length, and the start of the pattern in the area.
-pub struct Trial {
-    pub job: u64,
-    pub length: u32,
-    pub size: u16,
-    pub start: u8,
+/// Is the job planned as expected? In an area that is just long enough, in a longer one, and in one that is a byte too short.
+pub(crate) fn is_right(b: &Buffer, length: u32, x: Expected) -> bool {
+    let mut area: Buffer = [0; 32896];
+    if !is_left(b, length, x.length % 65536, x, &mut area) {
+        return false;
+    }
+    if !is_left(b, length, x.length % 65536 + 9, x, &mut area) {
+        return false;
+    }
+    is_left(
+        b,
+        length,
+        std::num::wrapping_sub_u32(x.length, 1),
+        x,
+        &mut area,
+    )
 }
 
-pub(crate) fn of(job: u64, length: u32, size: u32, start: u8) -> Trial {
-    Trial {
-        job: job,
-        length: length,
-        size: (size % 65536) as u16,
-        start: start,
+// In an area of one size. If not, what differs is said.
+fn is_left(b: &Buffer, length: u32, size: u32, x: Expected, area: &mut Buffer) -> bool {
+    let expected = x.within(size);
+    let end = size % 65536 + 16;
+    fill(area, end);
+    if !ask(b, length, area, size).equals(expected) {
+        print::text(b" outcome");
+        return false;
     }
-}
-
-impl Trial {
-    /// The bytes that are looked at.
-    pub(crate) fn end(self) -> u32 {
-        self.size as u32 + 16
-    }
-
-    /// Does the planner answer so for the job in b, and leave in the area what is expected? If not, a line says what differs.
-    pub(crate) fn is_right(
-        self,
-        answer: Answer,
-        b: &Buffer,
-        area: &mut Buffer,
-        expected: &Buffer,
-    ) -> bool {
-        sheet::fill(area, self.end(), self.start);
-        let given = ask(b, self.length, area, self.size);
-        let at = first_difference(area, expected, self.end());
-        if !given.equals(answer) {
-            self.show_answers(given, answer);
-            return false;
-        }
-        if at < self.end() {
-            self.show_byte(expected, at, answer.is_planned());
-            return false;
-        }
-        true
-    }
-
-    fn show_answers(self, given: Answer, answer: Answer) {
-        self.show();
-        given.show();
-        print::text(b" and not ");
-        answer.show();
-        print::text(b"\n");
-    }
-
-    fn show_byte(self, expected: &Buffer, at: u32, planned: bool) {
-        self.show();
-        print::text(b"byte ");
+    let written = if expected.kind == answer::PLANNED {
+        x.length
+    } else {
+        0
+    };
+    let at = first_difference(b, area, written, end);
+    if at < end {
+        print::text(b" byte ");
         print::count(at as u64);
-        print::text(b", ");
-        sheet::show(expected, at, planned);
-        print::text(b"\n");
+        return false;
     }
-
-    fn show(self) {
-        print::text(b"job ");
-        print::count(self.job);
-        print::text(b" area ");
-        print::count(self.size as u64);
-        print::text(b" differs: ");
-    }
+    true
 }
 
 // The planner's answer for the first bytes of the job's buffer and of the area's.
-fn ask(b: &[u8], length: u32, area: &mut [u8], size: u16) -> Answer {
+fn ask(b: &[u8], length: u32, area: &mut [u8], size: u32) -> Answer {
     let end = length as usize;
     let stop = size as usize;
     if b.len() < end {
@@ -90,15 +62,34 @@ fn ask(b: &[u8], length: u32, area: &mut [u8], size: u16) -> Answer {
     answer::of(&b[0..end], &mut area[0..stop])
 }
 
-// The first of these bytes that is not the same in both, or their end.
-fn first_difference(x: &Buffer, y: &Buffer, end: u32) -> u32 {
+// What stands in an area before.
+fn pattern(i: u32) -> u64 {
+    7 * i as u64 + 13
+}
+
+fn fill(area: &mut Buffer, end: u32) {
     let mut i: u32 = 0;
     while i < end {
-        let at = i as usize;
-        if byte(x, at) != byte(y, at) {
+        store(area, i as usize, pattern(i));
+        i += 1;
+    }
+}
+
+// The first byte of an area that is not as in the sheet, or where nothing is written as before; or the end.
+fn first_difference(b: &Buffer, area: &Buffer, written: u32, end: u32) -> u32 {
+    let mut i: u32 = 0;
+    while i < end {
+        if byte(area, i as usize) != expected(b, i, written) {
             return i;
         }
         i += 1;
     }
     end
+}
+
+fn expected(b: &Buffer, i: u32, written: u32) -> u8 {
+    if i < written {
+        return byte(b, SHEET as usize + i as usize);
+    }
+    (pattern(i) % 256) as u8
 }

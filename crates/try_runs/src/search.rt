@@ -1,159 +1,122 @@
 //! The plain search: each number from -33 to 33 is tried by walking the run.
 //!
-//! No answer lies further out. A meeting of runs from -6 to 6 stays there; where a·p + b·q = c with a and b from 1 to 4
-//! in size, c to 9 and q to 6, p is no larger in size than a·p, and that no larger than 9 + 4·6.
+//! No answer lies further out. A meeting of runs from -6 to 6 stays there; where a·p + b·q = c with a and b from 1 to 4 in size, c to 9
+//! and q to 6, p is no larger in size than a·p, and that no larger than 9 + 4·6.
 
-ghost use Prim.Native.Nat.{_+_, _*_, _≤_};
-ghost use Rattle.ints.specs.Within.{Within};
-ghost use Rattle.try_runs.specs.Small.{SmallRun, SmallEquation, SmallTask, Found};
+use crate::task::Numbers;
 use crate::task::Task;
-use runs::Equation;
-use runs::Run;
+
+/// The run that was found so far, and its last number.
+struct Found {
+    first: u64,
+    step: u64,
+    many: u64,
+    last: u64,
+}
 
 /// The run of all answers.
-pub(crate) fn result(task: Task, run: Run) -> Run
-    requires { ⌜ SmallTask task ⌝ }
-    requires { ⌜ SmallRun run ⌝ }
-{
-    let mut found = Run {
+pub(crate) fn result(t: Task, r: Numbers) -> Numbers {
+    let mut f = Found {
         first: 0,
         step: 0,
         many: 0,
+        last: 0,
     };
     let mut i: u64 = 0;
     while i < 67 {
-        found = tried(task, run, found, centred(i, 33));
+        let x = std::num::wrapping_sub_u64(i, 33);
+        if is_answer(t, r, x) {
+            f = f.with(x);
+        }
         i += 1;
     }
-    found
-}
-
-// With x, if it is an answer.
-fn tried(task: Task, run: Run, found: Run, x: i64) -> Run
-    requires { ⌜ SmallTask task ⌝ }
-    requires { ⌜ SmallRun run ⌝ }
-    requires { ⌜ Found 66 found ⌝ }
-    requires { ⌜ Within 33 x ⌝ }
-    ensures { λ r. ⌜ Found (found .many + 1) r ⌝ }
-{
-    if is_answer(task, run, x) {
-        grown(found, x)
-    } else {
-        found
+    Numbers {
+        first: f.first,
+        step: f.step,
+        many: f.many,
     }
 }
 
-// The run that was found so far, with one number more. A number that does not follow breaks it: with step 0 it is no run
-// in its one form, and agrees with no answer.
-fn grown(found: Run, x: i64) -> Run
-    requires { ⌜ Found 66 found ⌝ }
-    requires { ⌜ Within 33 x ⌝ }
-    ensures { λ r. ⌜ Found (found .many + 1) r ⌝ }
-{
-    if found.many == 0 {
-        return Run {
-            first: x,
-            step: 0,
-            many: 1,
-        };
-    }
-    if found.many == 1 {
-        return Run {
-            first: found.first,
-            step: x - found.first,
-            many: 2,
-        };
-    }
-    if follows(found, x) {
-        return Run {
-            first: found.first,
-            step: found.step,
-            many: found.many + 1,
-        };
-    }
-    Run {
-        first: found.first,
-        step: 0,
-        many: found.many + 1,
-    }
-}
-
-// Is x the next number of the run?
-fn follows(found: Run, x: i64) -> bool
-    requires { ⌜ Found 66 found ⌝ }
-    requires { ⌜ Within 33 x ⌝ }
-{
-    found.first + found.step * found.many as i64 == x
-}
-
-fn is_answer(task: Task, run: Run, x: i64) -> bool
-    requires { ⌜ SmallTask task ⌝ }
-    requires { ⌜ SmallRun run ⌝ }
-    requires { ⌜ Within 33 x ⌝ }
-{
-    match task {
-        Task::Meet(other) => {
-            if among(other, x) {
-                return among(run, x);
+impl Found {
+    // With one number more. A number that does not follow breaks it: with step 0 it is no run in its one form, and agrees with no answer.
+    fn with(self, x: u64) -> Found {
+        let mut f = self;
+        let many = self.many;
+        let way = std::num::wrapping_sub_u64(x, self.last);
+        f.last = x;
+        f.many = std::num::wrapping_add_u64(many, 1);
+        match many {
+            0 => {
+                f.first = x;
             }
-            false
+            1 => {
+                f.step = way;
+            }
+            _ => {
+                if way != self.step {
+                    f.step = 0;
+                }
+            }
         }
-        Task::Carry(e) => has_partner(e, run, x),
+        f
     }
 }
 
-// Is x among the numbers of r?
-fn among(r: Run, x: i64) -> bool
-    requires { ⌜ SmallRun r ⌝ }
-{
-    let mut k: u32 = 0;
+fn is_answer(t: Task, r: Numbers, x: u64) -> bool {
+    if !t.carry {
+        let other = Numbers {
+            first: t.a,
+            step: t.b,
+            many: t.c,
+        };
+        if !has_partner(t, other, x) {
+            return false;
+        }
+    }
+    has_partner(t, r, x)
+}
+
+// Has x a partner among the numbers of r: a q with which the equation holds, or itself?
+fn has_partner(t: Task, r: Numbers, x: u64) -> bool {
+    let mut q = r.first;
+    let mut k: u64 = 0;
     while k < r.many {
-        if nth(r, k) == x {
+        if are_partners(t, x, q) {
             return true;
         }
+        q = std::num::wrapping_add_u64(q, r.step);
         k += 1;
     }
     false
 }
 
-// Has p a partner q among the numbers of r?
-fn has_partner(e: Equation, r: Run, p: i64) -> bool
-    requires { ⌜ SmallEquation e ⌝ }
-    requires { ⌜ SmallRun r ⌝ }
-    requires { ⌜ Within 33 p ⌝ }
-{
-    let mut k: u32 = 0;
-    while k < r.many {
-        if holds(e, p, nth(r, k)) {
-            return true;
-        }
-        k += 1;
+fn are_partners(t: Task, p: u64, q: u64) -> bool {
+    if t.carry {
+        std::num::wrapping_add_u64(times(t.a, p), times(t.b, q)) == t.c
+    } else {
+        p == q
     }
-    false
 }
 
-fn holds(e: Equation, p: i64, q: i64) -> bool
-    requires { ⌜ SmallEquation e ⌝ }
-    requires { ⌜ Within 33 p ⌝ }
-    requires { ⌜ Within 162 q ⌝ }
-{
-    e.a * p + e.b * q == e.c
+// A product with a number from -4 to 4.
+fn times(a: u64, x: u64) -> u64 {
+    if 4 < a {
+        return multiple(
+            std::num::wrapping_sub_u64(0, a),
+            std::num::wrapping_sub_u64(0, x),
+        );
+    }
+    multiple(a, x)
 }
 
-/// The number of r at place k.
-pub(crate) fn nth(r: Run, k: u32) -> i64
-    requires { ⌜ SmallRun r ⌝ }
-    requires { ⌜ k ≤ 13 ⌝ }
-    ensures { λ x. ⌜ Within 162 x ⌝ }
-{
-    r.first + r.step * k as i64
-}
-
-/// From 0..=2·most to -most..=most.
-pub(crate) fn centred(x: u64, most: u64) -> i64
-    requires { ⌜ most ≤ 33 ⌝ }
-    requires { ⌜ x ≤ 2 * most ⌝ }
-    ensures { λ r. ⌜ Within most r ⌝ }
-{
-    x as i64 - most as i64
+// From 0 to 4.
+fn multiple(a: u64, x: u64) -> u64 {
+    let double = std::num::wrapping_add_u64(x, x);
+    match a {
+        0 => 0,
+        1 => x,
+        2 => double,
+        3 => std::num::wrapping_add_u64(double, x),
+        _ => std::num::wrapping_add_u64(double, double),
+    }
 }

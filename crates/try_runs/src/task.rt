@@ -1,82 +1,70 @@
-//! A working with its arguments, and the line that shows it.
+//! A working with its arguments, and its answer. Numbers are in two's complement.
 
 use runs::Equation;
 use runs::Run;
 use runs::Working;
 
-/// What is done with a run: it is met with another one, or carried by an equation.
-pub enum Task {
-    Meet(Run),
-    Carry(Equation),
+/// A run.
+pub struct Numbers {
+    pub first: u64,
+    pub step: u64,
+    pub many: u64,
 }
 
-pub(crate) fn ask(task: Task, run: Run) -> Working {
-    match task {
-        Task::Meet(other) => runs::meeting(other, run),
-        Task::Carry(e) => runs::carrying(e, run),
+/// What is done with a run: it is carried by an equation a·p + b·q = c, or met with the run whose first number, step and length these are.
+pub struct Task {
+    pub carry: bool,
+    pub a: u64,
+    pub b: u64,
+    pub c: u64,
+}
+
+pub(crate) fn ask(t: Task, r: Numbers) -> Working {
+    let q = run_of(r.first, r.step, r.many);
+    if t.carry {
+        let e = Equation {
+            a: signed(t.a),
+            b: signed(t.b),
+            c: signed(t.c),
+        };
+        return runs::carrying(e, q);
     }
+    runs::meeting(run_of(t.a, t.b, t.c), q)
 }
 
-pub(crate) fn run_of(first: i64, step: i64, many: u32) -> Run {
+fn run_of(first: u64, step: u64, many: u64) -> Run {
     Run {
-        first: first,
-        step: step,
-        many: many,
+        first: signed(first),
+        step: signed(step),
+        many: (many % 4294967296) as u32,
     }
 }
 
-/// A line for a meeting.
-pub(crate) fn meet(a: Run, b: Run) {
-    show(Task::Meet(a), b);
-    print::text(b"\n");
-}
-
-/// A line for a carrying.
-pub(crate) fn carry(a: i64, b: i64, c: i64, q: Run) {
-    show(Task::Carry(Equation { a: a, b: b, c: c }), q);
-    print::text(b"\n");
-}
-
-/// The arguments and the answer, on a line that is still open.
-pub(crate) fn show(task: Task, run: Run) {
-    match task {
-        Task::Meet(other) => {
-            print::text(b"meet ");
-            show_run(other);
-            print::text(b" with ");
-        }
-        Task::Carry(e) => {
-            print::text(b"carry ");
-            show_equation(e);
-            print::text(b" from ");
-        }
+fn signed(x: u64) -> i64 {
+    if x < 9223372036854775808 {
+        return x as i64;
     }
-    show_run(run);
-    show_answer(ask(task, run));
+    -1 - ((18446744073709551615 - x) as i64)
 }
 
-/// First, step, how many.
-pub(crate) fn show_run(r: Run) {
-    print::number(r.first);
-    print::text(b" ");
-    print::number(r.step);
-    print::text(b" ");
-    print::count(r.many as u64);
+/// In two's complement.
+pub(crate) fn bits(x: i64) -> u64 {
+    if x < 0 {
+        return std::num::wrapping_sub_u64(0, ints::size(x));
+    }
+    ints::size(x)
 }
 
-fn show_equation(e: Equation) {
-    print::number(e.a);
-    print::text(b" p + ");
-    print::number(e.b);
-    print::text(b" q = ");
-    print::number(e.c);
-}
-
-fn show_answer(w: Working) {
+/// Prints the answer: first, step, how many; or the reason and the row.
+pub(crate) fn show(w: Working) {
     match w {
         Working::Gives(r) => {
             print::text(b" is ");
-            show_run(r);
+            print::number(r.first);
+            print::text(b" ");
+            print::number(r.step);
+            print::text(b" ");
+            print::count(r.many as u64);
         }
         Working::Refused(r) => {
             print::text(b" refused ");
@@ -85,4 +73,5 @@ fn show_answer(w: Working) {
             print::count(r.row() as u64);
         }
     }
+    print::text(b"\n");
 }

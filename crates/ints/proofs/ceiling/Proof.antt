@@ -7,7 +7,7 @@ use mir.Syntax.{w64}
 use mir.Val.{SFits}
 use mir.Facts.{toZ-ofZ}
 use Rattle.ints.specs.Floor.{floorDiv, ceilDiv}
-use Rattle.ints.specs.Division.{InLimits}
+use Rattle.ints.specs.Division.{DivisionLimits}
 use Rattle.ints.proofs.Linear.{lin, lin₀, facts}
 use Rattle.ints.proofs.Signed.{held, signed}
 use Rattle.ints.proofs.Floor.{floor-within}
@@ -16,14 +16,14 @@ use Rattle.ints.proofs.ceiling.Statement.{statement}
 use Rattle.ints.proofs.ceiling.Tie as tie
 
 -- of numbers within the limits; a program's −x is 0 − x
-module _ (n d : ℤ) (h : InLimits n d) where
-  limits : InLimits (pos 0 -ℤ n) d
+module _ (n d : ℤ) (h : DivisionLimits n d) where
+  limits : DivisionLimits (pos 0 -ℤ n) d
   limits = record { dividend = lin (n ∷ []) (h .dividend) (search facts depth 20) (omega arith); divisor = h .divisor; not-zero = h .not-zero }
 
   turned-asked : SFits w64 (pos 0 -ℤ held n)
   turned-asked = rw (toZ-ofZ (fits-limit (h .dividend))) (fits-limit (limits .dividend))
 
-  limits-asked : InLimits (held (pos 0 -ℤ held n)) (held d)
+  limits-asked : DivisionLimits (held (pos 0 -ℤ held n)) (held d)
   limits-asked = rw (toZ-ofZ (fits-limit (h .dividend))) (asked limits)
 
   module _ (q : ℤ) (e : q ≡ floorDiv (held (pos 0 -ℤ held n)) (held d)) where

@@ -4,7 +4,7 @@ use mathlib.Core.Bool.{true, false}
 use borrow.Author.Needs.{needs}
 use mir.Facts.{toZ-ofZ}
 use Rattle.ints.specs.Floor.{floorDiv}
-use Rattle.ints.specs.Division.{InLimits, inLimits, quotient}
+use Rattle.ints.specs.Division.{DivisionLimits, divisionLimits, quotient}
 use Rattle.ints.proofs.Answers.{in-limits-out}
 use Rattle.ints.proofs.Signed.{told₂}
 use Rattle.ints.proofs.divide.Statement.{statement}
@@ -16,21 +16,21 @@ in-limits-requires c κs = search needs
 floor-div-requires : tie.Need-floor-div-requires
 floor-div-requires c κs =
     let s = c .before .before in
-    let inside : inLimits (s .args .n) (s .args .d) ≡ true = told₂ inLimits (s .fits .n) (s .fits .d) (c .before .in-limits .ensures) (c .if1 .taken) in
-    let k : InLimits (s .args .n) (s .args .d) = in-limits-out (s .args .n) (s .args .d) inside in
+    let inside : divisionLimits (s .args .n) (s .args .d) ≡ true = told₂ divisionLimits (s .fits .n) (s .fits .d) (c .before .in-limits .ensures) (c .if1 .taken) in
+    let k : DivisionLimits (s .args .n) (s .args .d) = in-limits-out (s .args .n) (s .args .d) inside in
     rw (toZ-ofZ (s .fits .n), toZ-ofZ (s .fits .d)) (k .dividend, k .not-zero)
 
 returns : tie.Need-returns
 returns c =
     let s = c .before .before .before in
-    let inside : inLimits (s .args .n) (s .args .d) ≡ true = told₂ inLimits (s .fits .n) (s .fits .d) (c .before .before .in-limits .ensures) (c .before .if1 .taken) in
+    let inside : divisionLimits (s .args .n) (s .args .d) ≡ true = told₂ divisionLimits (s .fits .n) (s .fits .d) (c .before .before .in-limits .ensures) (c .before .if1 .taken) in
     let is : c .floor-div .result ≡ floorDiv (s .args .n) (s .args .d) = rw (toZ-ofZ (s .fits .n), toZ-ofZ (s .fits .d)) at (c .floor-div .ensures) in
     rw (inside, toZ-ofZ (record { sfits = c .floor-div .ok })) (ap quotient is)
 
 returns-2 : tie.Need-returns-2
 returns-2 c =
     let s = c .before .before in
-    let outside : inLimits (s .args .n) (s .args .d) ≡ false = told₂ inLimits (s .fits .n) (s .fits .d) (c .before .in-limits .ensures) (c .if1 .left) in
+    let outside : divisionLimits (s .args .n) (s .args .d) ≡ false = told₂ divisionLimits (s .fits .n) (s .fits .d) (c .before .in-limits .ensures) (c .if1 .left) in
     rw outside
 
 pub divide-spec : {M : Type 1} → statement M

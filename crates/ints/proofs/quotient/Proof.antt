@@ -12,7 +12,7 @@ use Rattle.ints.proofs.Linear.{lin}
 use Rattle.ints.proofs.Signed.{held, signed}
 use Rattle.ints.proofs.Floor.{floor-within}
 use Rattle.ints.specs.Floor.{floorDiv}
-use Rattle.ints.specs.Division.{answerOf, division, InLimits, quotient, refused}
+use Rattle.ints.specs.Division.{divisionAnswerOf, division, DivisionLimits, quotient, refused}
 use Rattle.ints.proofs.Answers.{gives-floor, IsQuotient, quotient-is}
 use Rattle.ints.proofs.quotient.Statement.{statement}
 use Rattle.ints.proofs.quotient.Tie as tie
@@ -24,13 +24,13 @@ module _ (n d : ℤ) (f : SFits w64 n) (g : SFits w64 d) where
       let k : IsQuotient (held n) (held d) q = quotient-is _ _ q e in
       rw (toZ-ofZ f, toZ-ofZ g) at (k .is)
 
-  not-refused : {X : Type 0} {a b : ℕ} → InLimits n d → refused a b ≡ division (held n) (held d) → X
+  not-refused : {X : Type 0} {a b : ℕ} → DivisionLimits n d → refused a b ≡ division (held n) (held d) → X
   not-refused {a} {b} h e =
       let e′ : refused a b ≡ division n d = rw (toZ-ofZ f, toZ-ofZ g) at e in
       let clash : refused a b ≡ quotient (floorDiv n d) = e′ ∙ gives-floor n d h in
       absurd (let z : _≡_ {A = ℕ} 0 1 = cc in omega arith)
 
-  fitting : (q : ℤ) → InLimits n d → q ≡ floorDiv n d → held q ≡ floorDiv n d
+  fitting : (q : ℤ) → DivisionLimits n d → q ≡ floorDiv n d → held q ≡ floorDiv n d
   fitting q h e =
       let fits : SFits w64 (floorDiv n d) = lin (floorDiv n d ∷ []) (floor-within n d (h .not-zero) (h .dividend)) (search signed depth 20) (omega arith) in
       rw e (toZ-ofZ fits)
@@ -47,14 +47,14 @@ enum-told c = search needs
 returns : tie.Need-returns
 returns c =
     let s = c .before .before .before .before in
-    let e = ap answerOf (sym (c .before .q .given .1)) ∙ c .before .before .before .divide .ensures in
+    let e = ap divisionAnswerOf (sym (c .before .q .given .1)) ∙ c .before .before .before .divide .ensures in
     let q = c .before .q .given .0 .0 in
     fitting (s .args .n) (s .args .d) (s .fits .n) (s .fits .d) q (s .pre) (floor-of (s .args .n) (s .args .d) (s .fits .n) (s .fits .d) q e)
 
 returns-2 : tie.Need-returns-2
 returns-2 c =
     let s = c .before .before .before in
-    let e = ap answerOf (sym (c .enum-told .given .1)) ∙ c .before .before .divide .ensures in
+    let e = ap divisionAnswerOf (sym (c .enum-told .given .1)) ∙ c .before .before .divide .ensures in
     not-refused (s .args .n) (s .args .d) (s .fits .n) (s .fits .d) (s .pre) e
 
 pub quotient-spec : {M : Type 1} → statement M

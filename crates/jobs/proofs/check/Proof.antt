@@ -7,10 +7,11 @@ use Prim.Native.Nat.{ℕ}
 use Rattle.reasons.specs.declared.Reason.{Reason}
 use Rattle.reasons.specs.declared.Reason.the-variants.{ShortArea}
 use Rattle.jobs.specs.Decide.{firstOf}
-use Rattle.jobs.specs.Faults.{broken?, noArea?, headerChecks, rowChecks, checks, firstBroken, faultOf, Answer, answered, checked, ChecksExactly}
-use Rattle.jobs.proofs.Firsts.{first-past, first-stays, first-without}
+use Rattle.jobs.specs.ReasonTable.{headerChecks, rowChecks, checks}
+use Rattle.jobs.specs.Faults.{broken?, noArea?, firstBroken, faultOf, Answer, answered, checked, ChecksExactly}
+use Rattle.jobs.proofs.FirstOf.{first-past, first-stays, first-without}
 use Rattle.jobs.proofs.Faults.{checks-exactly}
-use Rattle.jobs.proofs.Lawful.{lawful-header}
+use Rattle.jobs.proofs.Lawful.{rows-inside}
 use borrow.Author.Needs.{needs}
 use Rattle.jobs.proofs.check.Statement.{statement}
 use Rattle.jobs.proofs.check.Tie as tie
@@ -36,8 +37,7 @@ enum-told c = search needs
 check-rows-requires : tie.Need-check-rows-requires
 check-rows-requires c κs =
     let a = c .before .before in
-    let l = lawful-header noArea? (now (a .before .before .args .job)) (sym (a .check .ensures) ∙ ap faultOf (c .enum-told .given .1)) in
-    (l .variables, (l .equations, l .header .real-length))
+    rows-inside noArea? (now (a .before .before .args .job)) (sym (a .check .ensures) ∙ ap faultOf (c .enum-told .given .1))
 
 -- an answer that is the definition's keeps the demand
 both : (s : List ℕ) {x : Answer} → x ≡ checked s → (x ≡ checked s) × ChecksExactly s x

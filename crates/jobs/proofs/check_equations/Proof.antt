@@ -1,35 +1,29 @@
 -- `check_equations` meets its contract: past each row that keeps its rules, what is left of the checks gives the same first fault.
 use denote.Ref.{now}
-use mathlib.Core.Path.{_≡_, sym, _∙_, ap, subst}
+use mathlib.Core.Path.{_≡_, sym, _∙_, subst}
 use mathlib.Core.Logic.{_↔_}
 use mathlib.Core.Bool.{Bool, true, false, false≢true}
 use mathlib.Core.List.{List, flatMap}
 use Prim.Native.Nat.{ℕ, _-_, _≤_}
 use native.Mathlib.Omega.{arith}
 use Rattle.lists.specs.Table.{upTo}
-use Rattle.jobs.specs.Job.{Equation, variableCount, equationRow, equationFrom, equationAt}
-use Rattle.jobs.specs.Table.{Misnamed, Coefficients}
+use Rattle.jobs.specs.Job.{Equation, jobOf, variableCount, equation}
+use Rattle.jobs.specs.ReasonTable.{Misnamed, Coefficients, equationChecks}
 use Rattle.jobs.specs.Decide.{firstOf}
-use Rattle.jobs.specs.Faults.{broken?, noArea?, equationChecks}
+use Rattle.jobs.specs.Faults.{broken?, noArea?}
 use Rattle.jobs.proofs.Branches.{passed, failed}
-use Rattle.jobs.proofs.Walks.{ofEquations, equations-start, equations-end, names-here, range-here, equation-past}
+use Rattle.jobs.proofs.RowChecks.{ofEquations, equations-start, equations-end, names-here, range-here, equation-past}
+use borrow.Author.Needs.{needs}
 use Rattle.jobs.proofs.check_equations.Statement.{statement}
 use Rattle.jobs.proofs.check_equations.Tie as tie
 
--- what the tests say of the row that was read, said of the row of the definition
-record Row (s : List ℕ) (n k : ℕ) (e : Equation) : Type 0 where
-  count : n ≡ variableCount s
-  read : e ≡ equationFrom s (equationRow n k)
+-- what the test says of the row that was read, said of the row of the job
+module _ {n m : ℕ} {e f : Equation} {t : Bool} (p : n ≡ m) (q : e ≡ f) (test : (t ≡ true) ↔ Misnamed n e) where
+  misnamed : t ≡ true → Misnamed m f
+  misnamed h = rw (← p, ← q) (test .0 h)
 
-module _ {s : List ℕ} {n k : ℕ} {e : Equation} (r : Row s n k e) where
-  is-row : e ≡ equationAt s k
-  is-row = r .read ∙ ap (λ t. equationFrom s (equationRow t k)) (r .count)
-
-  misnamed : Misnamed n e → Misnamed (variableCount s) (equationAt s k)
-  misnamed h = subst (λ t. Misnamed t (equationAt s k)) (r .count) (subst (Misnamed n) is-row h)
-
-  named : {t : Bool} → (t ≡ true) ↔ Misnamed n e → t ≡ false → ¬ Misnamed (variableCount s) (equationAt s k)
-  named i f h = false≢true (sym f ∙ i .1 (subst (Misnamed n) (sym is-row) (subst (λ t. Misnamed t (equationAt s k)) (sym (r .count)) h)))
+  named : t ≡ false → ¬ Misnamed m f
+  named h k = false≢true (sym h ∙ test .1 (rw (p, q) k))
 
 abbrev Inv-loop : tie.InvT-loop
 Inv-loop job n m k₀ k = (k ≤ m) × (firstOf (broken? noArea? job) (flatMap equationChecks (upTo m)) ≡ ofEquations job k m)
@@ -40,17 +34,15 @@ abbrev μ-loop : tie.MeasureT-loop
 abbrev bytes : tie.After-read Inv-loop μ-loop → List ℕ
 bytes d = now (d .before .before .before .before .args .job)
 
-row : (d : tie.After-read Inv-loop μ-loop) → Row (bytes d) (d .before .before .before .before .args .n) (d .before .before .loop .k) (d .read .result)
-row d = record { count = omega arith; read = d .read .ensures }
-
-well-named : (d : tie.After-in-limits Inv-loop μ-loop) → ¬ Misnamed (variableCount (bytes (d .before .before .before))) (equationAt (bytes (d .before .before .before)) (d .before .before .before .before .before .loop .k))
-well-named d = named (row (d .before .before .before)) (d .before .before .is-misnamed .ensures) (d .before .if2 .left)
+-- row k names no other variables
+well-named : (d : tie.After-in-limits Inv-loop μ-loop) → let r = d .before .before .before in ¬ Misnamed (variableCount (bytes r)) (equation (jobOf (bytes r)) (r .before .before .loop .k))
+well-named d = let r = d .before .before .before in named (r .before .before .before .before .pre .1 .0) (r .read .ensures) (d .before .before .is-misnamed .ensures) (d .before .if2 .left)
 
 loop-holds : tie.Need-loop-holds Inv-loop μ-loop
 loop-holds c = (omega arith, equations-start (now (c .before .args .job)) (c .before .args .m))
 
 read-requires : tie.Need-read-requires Inv-loop μ-loop
-read-requires c κs = (omega arith, (omega arith, omega arith))
+read-requires c κs = search needs
 
 is-misnamed-requires : tie.Need-is-misnamed-requires Inv-loop μ-loop
 is-misnamed-requires c κs = tt
@@ -76,7 +68,7 @@ loop-again c =
     let r = d .before .before .before in
     let l = r .before .before .loop in
     let sound = passed _ (d .in-limits .ensures) (c .if3 .left) in
-    (omega arith, l .inv .1 ∙ equation-past (bytes r) (l .k) _ (omega arith) (λ b. well-named d (b .1)) (λ b. b .1 (subst Coefficients (is-row (row r)) sound)))
+    (omega arith, l .inv .1 ∙ equation-past (bytes r) (l .k) _ (omega arith) (λ b. well-named d (b .1)) (λ b. b .1 (subst Coefficients (r .read .ensures) sound)))
 
 returns : tie.Need-returns Inv-loop μ-loop
 returns c =
@@ -87,7 +79,7 @@ returns-2 : tie.Need-returns-2 Inv-loop μ-loop
 returns-2 c =
     let r = c .before .before in
     let l = r .before .before .loop in
-    sym (l .inv .1 ∙ names-here (bytes r) (l .k) _ (omega arith) (omega arith, misnamed (row r) (c .before .is-misnamed .ensures .0 (c .if2 .taken))))
+    sym (l .inv .1 ∙ names-here (bytes r) (l .k) _ (omega arith) (omega arith, misnamed (r .before .before .before .before .pre .1 .0) (r .read .ensures) (c .before .is-misnamed .ensures) (c .if2 .taken)))
 
 returns-3 : tie.Need-returns-3 Inv-loop μ-loop
 returns-3 c =
@@ -95,7 +87,7 @@ returns-3 c =
     let r = d .before .before .before in
     let l = r .before .before .loop in
     let out = failed _ (d .in-limits .ensures) (c .if3 .taken) in
-    sym (l .inv .1 ∙ range-here (bytes r) (l .k) _ (omega arith) (λ b. well-named d (b .1)) (omega arith, λ h. out (subst Coefficients (sym (is-row (row r))) h)))
+    sym (l .inv .1 ∙ range-here (bytes r) (l .k) _ (omega arith) (λ b. well-named d (b .1)) (omega arith, λ h. out (subst Coefficients (sym (r .read .ensures)) h)))
 
 pub check-equations-spec : {M : Type 1} → statement M
 check-equations-spec =

@@ -11,8 +11,9 @@ use Rattle.jobs.specs.declared.Checked.{Checked}
 use Rattle.jobs.specs.declared.Checked.the-variants.{Accepted, Refused}
 use Rattle.jobs.specs.Job.{variableCount, equationCount}
 use Rattle.jobs.specs.Decide.{firstOf}
-use Rattle.jobs.specs.Faults.{broken?, noArea?, faultOf, equationChecks, rowChecks}
-use Rattle.jobs.proofs.Firsts.{first-past, first-stays}
+use Rattle.jobs.specs.ReasonTable.{equationChecks, rowChecks}
+use Rattle.jobs.specs.Faults.{broken?, noArea?, faultOf}
+use Rattle.jobs.proofs.FirstOf.{first-past, first-stays}
 use borrow.Author.Needs.{needs}
 use Rattle.jobs.proofs.check_rows.Statement.{statement}
 use Rattle.jobs.proofs.check_rows.Tie as tie

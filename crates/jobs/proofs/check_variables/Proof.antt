@@ -5,11 +5,12 @@ use Prim.Native.Nat.{_-_, _≤_}
 use native.Mathlib.Omega.{arith}
 use Rattle.reasons.specs.declared.Reason.the-variants.{VariableRange}
 use Rattle.lists.specs.Table.{table}
-use Rattle.jobs.specs.Table.{InRange}
+use Rattle.jobs.specs.ReasonTable.{InRange}
 use Rattle.jobs.specs.Decide.{firstOf}
 use Rattle.jobs.specs.Faults.{broken?, noArea?}
 use Rattle.jobs.proofs.Branches.{passed, failed}
-use Rattle.jobs.proofs.Walks.{ofVariables, variables-start, variables-end, variable-here, variable-past}
+use Rattle.jobs.proofs.RowChecks.{ofVariables, variables-start, variables-end, variable-here, variable-past}
+use borrow.Author.Needs.{needs}
 use Rattle.jobs.proofs.check_variables.Statement.{statement}
 use Rattle.jobs.proofs.check_variables.Tie as tie
 
@@ -23,7 +24,7 @@ loop-holds : tie.Need-loop-holds Inv-loop μ-loop
 loop-holds c = (omega arith, variables-start (now (c .before .args .job)) (c .before .args .n))
 
 read-requires : tie.Need-read-requires Inv-loop μ-loop
-read-requires c κs = (omega arith, omega arith)
+read-requires c κs = search needs
 
 in-range-requires : tie.Need-in-range-requires Inv-loop μ-loop
 in-range-requires c κs = tt

@@ -9,9 +9,9 @@ use Rattle.jobs.specs.Verdict.{Verdict, verdict}
 use Rattle.jobs.specs.Sheet.{sheet}
 use Rattle.jobs.specs.Demands.{TurnsAway, GivesFits, CannotBeBettered}
 use Rattle.jobs.proofs.Outcomes.{as-checked}
-use Rattle.jobs.proofs.Promises.{turns-away, cannot-be-bettered}
-use Rattle.families.proofs.Sheets.{definitions-give-fits}
-use Rattle.solver.proofs.Accepting.{accepts}
+use Rattle.jobs.proofs.DemandsHold.{turns-away, cannot-be-bettered}
+use Rattle.families.proofs.SheetFamilies.{definitions-give-fits}
+use Rattle.solver.proofs.AcceptedJob.{accepts}
 use Rattle.planner.proofs.plan.Statement.{statement}
 use Rattle.planner.proofs.plan.Tie as tie
 

@@ -3,13 +3,13 @@ use mathlib.Core.Path.{_≡_, sym, _∙_, ap}
 use mathlib.Core.Bool.{true≢false}
 use borrow.Author.Needs.{needs}
 use Rattle.runs.specs.Run.{Run, OneForm}
-use Rattle.runs.specs.Workings.{Answer, RefusedUnless, Equation, InLimits, run, refused, carrying}
+use Rattle.runs.specs.Workings.{WorkingAnswer, RefusedUnless, Equation, CarryLimits, run, refused, carrying}
 use Rattle.runs.proofs.Refusals.{one-form-iff, in-limits-iff, carrying-gives, carrying-refuses, carrying-unless}
 use Rattle.runs.proofs.carrying.Statement.{statement}
 use Rattle.runs.proofs.carrying.Tie as tie
 
 -- both clauses of the contract from the first
-both : (e : Equation) (q : Run) (x : Answer) → x ≡ carrying e q → (x ≡ carrying e q) × RefusedUnless (InLimits e × OneForm q) x
+both : (e : Equation) (q : Run) (x : WorkingAnswer) → x ≡ carrying e q → (x ≡ carrying e q) × RefusedUnless (CarryLimits e × OneForm q) x
 both e q x is = (is, carrying-unless is)
 
 in-limits-requires : tie.Need-in-limits-requires

@@ -3,13 +3,13 @@ use mathlib.Core.Path.{_≡_, sym, _∙_, ap}
 use mathlib.Core.Bool.{true≢false}
 use borrow.Author.Needs.{needs}
 use Rattle.runs.specs.Run.{Run, OneForm}
-use Rattle.runs.specs.Workings.{Answer, RefusedUnless, run, refused, meeting}
+use Rattle.runs.specs.Workings.{WorkingAnswer, RefusedUnless, run, refused, meeting}
 use Rattle.runs.proofs.Refusals.{one-form-iff, meeting-gives, meeting-refuses, meeting-unless}
 use Rattle.runs.proofs.meeting.Statement.{statement}
 use Rattle.runs.proofs.meeting.Tie as tie
 
 -- both clauses of the contract from the first
-both : (a b : Run) (x : Answer) → x ≡ meeting a b → (x ≡ meeting a b) × RefusedUnless (OneForm a × OneForm b) x
+both : (a b : Run) (x : WorkingAnswer) → x ≡ meeting a b → (x ≡ meeting a b) × RefusedUnless (OneForm a × OneForm b) x
 both a b x e = (e, meeting-unless e)
 
 is-one-form-requires : tie.Need-is-one-form-requires

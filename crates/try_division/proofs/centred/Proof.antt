@@ -14,17 +14,10 @@ fits x most h k =
     let f : SFits w64 (pos x -ℤ pos most) = lin₀ (pos x ∷ pos most ∷ []) (search signed depth 20) (omega arith) in
     rw (cast x (omega arith), cast most (omega arith)) f
 
-cast-result : tie.Need-cast-result
-cast-result c = search needs
-
-cast-result-2 : tie.Need-cast-result-2
-cast-result-2 c = search needs
-
 sub-result : tie.Need-sub-result
 sub-result c = fits (c .args .x) (c .args .most) (c .pre .0) (c .pre .1)
 
-returns : tie.Need-returns
-returns c = search needs
-
 pub centred-spec : {M : Type 1} → statement M
-centred-spec = tie.close (tie.spec cast-result cast-result-2 sub-result returns)
+centred-spec =
+    tie.close
+    (tie.spec (search needs) (search needs) sub-result (search needs))

@@ -8,7 +8,7 @@ use mir.Syntax.{w64}
 use mir.Val.{SFits}
 use mir.Facts.{toZ-ofZ}
 use Rattle.ints.specs.Within.{Within}
-use Rattle.ints.specs.Division.{InLimits}
+use Rattle.ints.specs.Division.{DivisionLimits}
 use Rattle.ints.proofs.{ℤ, pos, natAbs, _+ℤ_, _*ℤ_, _≤ℤ_, _<ℤ_, [], _∷_, arith, lin, _&_, signed, within-mul}
 use Rattle.ints.proofs.Order.{lt-true, lt-false, le-true, abs-zero}
 use Rattle.ints.proofs.Signed.{held}
@@ -19,17 +19,17 @@ use Rattle.try_division.proofs.is_floor.Lts as lts
 use Rattle.ints.proofs.size.Reads as size-reads
 
 -- a quotient that is not too large has a product that fits, with room for a divisor more
-near : (n d q : ℤ) (a b c : ℕ) → InLimits n d → a ≡ natAbs n → b ≡ natAbs d → c ≡ natAbs q → c ≤ a / b + 1 → Within 8000000000000000000 (d *ℤ q)
+near : (n d q : ℤ) (a b c : ℕ) → DivisionLimits n d → a ≡ natAbs n → b ≡ natAbs d → c ≡ natAbs q → c ≤ a / b + 1 → Within 8000000000000000000 (d *ℤ q)
 near n d q a b c h ea eb ec k =
     let small : natAbs q ≤ natAbs n / natAbs d + 1 = rw (ea, eb, ec) at k in
     let w = within-mul {x = d} {y = q} record { size = le-refl (natAbs d) } record { size = small } in
     record { size = omega (arith, w .size, div-add-mod (natAbs n) (natAbs d), h .dividend .size, h .divisor .size) }
 
 -- that product and one divisor more, on the side of n where it is formed
-more-up : (n d p : ℤ) → InLimits n d → Within 8000000000000000000 p → pos 0 <ℤ d → p ≤ℤ n → SFits w64 (p +ℤ d)
+more-up : (n d p : ℤ) → DivisionLimits n d → Within 8000000000000000000 p → pos 0 <ℤ d → p ≤ℤ n → SFits w64 (p +ℤ d)
 more-up n d p h w a b = lin (n ∷ d ∷ p ∷ []) (h .dividend & h .divisor & w & a & b) (search signed depth 20) (omega arith)
 
-more-down : (n d p : ℤ) → InLimits n d → Within 8000000000000000000 p → d ≤ℤ pos 0 → n ≤ℤ p → SFits w64 (p +ℤ d)
+more-down : (n d p : ℤ) → DivisionLimits n d → Within 8000000000000000000 p → d ≤ℤ pos 0 → n ≤ℤ p → SFits w64 (p +ℤ d)
 more-down n d p h w a b = lin (n ∷ d ∷ p ∷ []) (h .dividend & h .divisor & w & a & b) (search signed depth 20) (omega arith)
 
 -- at the product, with the bits of the locals taken away
@@ -52,7 +52,7 @@ module _ (c : lts.Else1 (size-reads.Asked, size-reads.Learnt) reads.Pre reads.Po
   fq : SFits w64 q
   fq = c .before .before .before .before .fits .q
 
-  inside : InLimits n d
+  inside : DivisionLimits n d
   inside = c .before .before .before .before .pre
 
   wide : Within 8000000000000000000 (d *ℤ q)
@@ -69,12 +69,6 @@ module _ (c : lts.Else1 (size-reads.Asked, size-reads.Learnt) reads.Pre reads.Po
   p-is : held (held d *ℤ held q) ≡ d *ℤ q
   p-is = toZ-ofZ fits-p ∙ ap₂ _*ℤ_ (toZ-ofZ fd) (toZ-ofZ fq)
 
-size-requires : tie.Need-size-requires
-size-requires c κs = search needs
-
-size-requires-2 : tie.Need-size-requires-2
-size-requires-2 c κs = search needs
-
 div-if1 : tie.Need-div-if1
 div-if1 c =
     let s = c .before .before in
@@ -87,12 +81,6 @@ add-if1 c =
     let s = c .before .before in
     let e : c .before .size .result ≡ natAbs (s .args .n) = rw (toZ-ofZ (s .fits .n)) at (c .before .size .ensures) in
     record { fits = omega (arith, div-le-self (c .before .size .result) (c .size2 .result), s .pre .dividend .size) }
-
-size-requires-3 : tie.Need-size-requires-3
-size-requires-3 c κs = search needs
-
-returns : tie.Need-returns
-returns c = search needs
 
 mul-p : tie.Need-mul-p
 mul-p c = fits-p c
@@ -111,32 +99,8 @@ add-result-2 c =
     let high : n e ≤ℤ (d e *ℤ q e) = le-true (n e) (d e *ℤ q e) .0 (rw (p-is e, toZ-ofZ (fn e)) at (c .if4 .taken)) in
     rw (p-is e, toZ-ofZ (fd e)) (more-down (n e) (d e) (d e *ℤ q e) (inside e) (wide e) down high)
 
-returns-2 : tie.Need-returns-2
-returns-2 c = search needs
-
-returns-3 : tie.Need-returns-3
-returns-3 c = search needs
-
-returns-4 : tie.Need-returns-4
-returns-4 c = search needs
-
-returns-5 : tie.Need-returns-5
-returns-5 c = search needs
-
 pub is-floor-spec : {M : Type 1} → statement M
 is-floor-spec =
     tie.close
-    (tie.spec
-    size-requires
-    size-requires-2
-    div-if1
-    add-if1
-    size-requires-3
-    returns
-    mul-p
-    add-result
-    add-result-2
-    returns-2
-    returns-3
-    returns-4
-    returns-5)
+    (tie.spec (search needs) (search needs) div-if1 add-if1 (search needs) (search needs) mul-p add-result
+    add-result-2 (search needs) (search needs) (search needs) (search needs))

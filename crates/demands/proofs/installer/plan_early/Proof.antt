@@ -2,7 +2,7 @@
 use native.Mathlib.Omega.{arith}
 use borrow.Author.Needs.{needs}
 use Rattle.jobs.specs.Demands.{GivesFits}
-use Rattle.families.proofs.Sheets.{definitions-give-fits}
+use Rattle.families.proofs.SheetFamilies.{definitions-give-fits}
 use Rattle.demands.proofs.Carried.{turned-early}
 use Rattle.demands.proofs.installer.plan_early.Statement.{statement}
 use Rattle.demands.proofs.installer.plan_early.Tie as tie

@@ -2,7 +2,7 @@
 use native.Mathlib.Omega.{arith}
 use borrow.Author.Needs.{needs}
 use Rattle.jobs.specs.Demands.{TurnsAway}
-use Rattle.jobs.proofs.Promises.{turns-away}
+use Rattle.jobs.proofs.DemandsHold.{turns-away}
 use Rattle.demands.proofs.Carried.{turned-early}
 use Rattle.demands.proofs.service_port.plan_early.Statement.{statement}
 use Rattle.demands.proofs.service_port.plan_early.Tie as tie

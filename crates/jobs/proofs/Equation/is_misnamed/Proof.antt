@@ -7,7 +7,7 @@ use native.Mathlib.Omega.{arith}
 use lib.Dec.{eqb}
 use borrow.Author.Tests.{eqb-true, eq-eqb}
 use Rattle.jobs.specs.Job.{Equation}
-use Rattle.jobs.specs.Table.{Misnamed}
+use Rattle.jobs.specs.ReasonTable.{Misnamed}
 use Rattle.jobs.proofs.Equation.is_misnamed.Statement.{statement}
 use Rattle.jobs.proofs.Equation.is_misnamed.Tie as tie
 

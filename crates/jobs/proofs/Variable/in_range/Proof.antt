@@ -1,13 +1,22 @@
 -- `Variable::in_range` meets its contract: each test is a part of the definition.
-use mathlib.Core.Path.{refl, sym, _∙_}
-use mathlib.Core.Bool.{false≢true}
-use Rattle.ints.specs.Within.{Within}
+use mathlib.Core.Path.{_≡_, refl, sym, _∙_}
+use mathlib.Core.Bool.{Bool, false≢true}
+use Prim.Native.Nat.{ℕ, _<_, _^_}
+use lib.IntN.{ℤ}
+use lib.Signed.{mag}
+use mir.Syntax.{w64}
+use mir.Val.{hbits}
+use Rattle.ints.specs.Within.{Within, isWithin}
+use Rattle.ints.proofs.Signed.{held, told}
 use Rattle.ints.proofs.Within.{within-true}
-use Rattle.jobs.proofs.Reading.{within-told}
 use Rattle.runs.specs.Run.{bound}
 use borrow.Author.Needs.{needs}
 use Rattle.jobs.proofs.Variable.in_range.Statement.{statement}
 use Rattle.jobs.proofs.Variable.in_range.Tie as tie
+
+-- what the test says of what a local holds it says of the number
+within-told : (most : ℕ) (x : ℤ) {r b : Bool} → mag x < 2 ^ hbits w64 → r ≡ isWithin most (held x) → r ≡ b → isWithin most x ≡ b
+within-told most x f = told {w = w64} {x = x} (isWithin most) (record { sfits = f })
 
 is-within-requires : tie.Need-is-within-requires
 is-within-requires c κs = search needs

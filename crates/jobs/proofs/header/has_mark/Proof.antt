@@ -8,7 +8,7 @@ use native.Mathlib.Numerals.{add-one}
 use native.Mathlib.Omega.{arith}
 use lib.ListN.{length, getD, take}
 use lib.Seq.{take-suc, getD-take}
-use Rattle.jobs.specs.Table.{mark}
+use Rattle.jobs.specs.ReasonTable.{mark}
 use Rattle.jobs.proofs.header.has_mark.Statement.{statement}
 use Rattle.jobs.proofs.header.has_mark.Tie as tie
 

@@ -6,9 +6,9 @@ use Prim.Native.Nat.{ℕ, _+_, _*_}
 use lib.Dec.{eqb}
 use lib.ListN.{length}
 use borrow.Author.Tests.{eqb-true, eq-eqb}
-use Rattle.jobs.specs.Bytes.{u32}
+use Rattle.bytes.specs.LittleEndian.{u32}
 use Rattle.jobs.specs.Job.{variableCount, equationCount}
-use Rattle.jobs.specs.Table.{Header}
+use Rattle.jobs.specs.ReasonTable.{Header}
 use mathlib.Core.Path.{_≡_, sym, _∙_}
 use mathlib.Core.Bool.{true, false≢true}
 use native.Mathlib.Omega.{arith}

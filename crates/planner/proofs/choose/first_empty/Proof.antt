@@ -6,8 +6,8 @@ use Prim.Native.Nat.{ℕ, _+_, _-_, _≤_, _<_}
 use native.Mathlib.Omega.{arith}
 use native.Mathlib.Decide.{ℕ-discrete}
 use Rattle.runs.specs.declared.Run.{Run}
-use Rattle.solver.specs.Arrays.{runIn}
-use Rattle.planner.specs.Choices.{NoneEmpty}
+use Rattle.solver.specs.StateArrays.{runIn}
+use Rattle.planner.specs.Choice.{NoneEmpty}
 use Rattle.planner.proofs.choose.first_empty.Statement.{statement}
 use Rattle.planner.proofs.choose.first_empty.Tie as tie
 

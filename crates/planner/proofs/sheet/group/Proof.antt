@@ -5,22 +5,24 @@ use borrow.Author.Needs.{needs}
 use mir.Facts.{toZ-ofZ}
 use lib.ListN.{length}
 use Rattle.ints.proofs.{ℤ, List, arith}
-use Rattle.jobs.specs.Bytes.{bytesOf, signedBytes}
+use Rattle.bytes.specs.LittleEndian.{bytesOf, signedBytes}
 use Rattle.families.specs.Family.{choice}
-use Rattle.families.specs.Plan.{groupRow}
-use Rattle.planner.specs.Area.{over}
-use Rattle.planner.proofs.Overwriting.{over-same, Written, behind-it, length-bytesOf, length-signedBytes}
+use Rattle.jobs.specs.SheetLayout.{sheetGroup}
+use Rattle.bytes.specs.Over.{over}
+use Rattle.bytes.proofs.LittleEndian.{length-bytesOf}
+use Rattle.bytes.proofs.TwosComplement.{length-signedBytes}
+use Rattle.bytes.proofs.Over.{over-same, Written, behind-it}
 use Rattle.planner.proofs.sheet.group.Statement.{statement}
 use Rattle.planner.proofs.sheet.group.Tie as tie
 
 -- the three fields
-row : (at many k : ℕ) (gain : ℤ) (a l₁ l₂ l₃ : List ℕ) → at + 16 ≤ length a → l₁ ≡ over at (bytesOf 4 many) a → l₂ ≡ over (at + 4) (bytesOf 4 k) l₁ →
-    l₃ ≡ over (at + 8) (signedBytes 8 gain) l₂ → l₃ ≡ over at (groupRow many k gain) a
-unfolding groupRow
-row at many k gain a l₁ l₂ l₃ h e₁ e₂ e₃ =
+row : (at many k : ℕ) (slope : ℤ) (a l₁ l₂ l₃ : List ℕ) → at + 16 ≤ length a → l₁ ≡ over at (bytesOf 4 many) a → l₂ ≡ over (at + 4) (bytesOf 4 k) l₁ →
+    l₃ ≡ over (at + 8) (signedBytes 8 slope) l₂ → l₃ ≡ over at (sheetGroup many k slope) a
+unfolding sheetGroup
+row at many k slope a l₁ l₂ l₃ h e₁ e₂ e₃ =
     let w₁ : Written at 4 a (bytesOf 4 many) l₁ = record { is = e₁; wide = length-bytesOf 4 many } in
     let w₂ = behind-it w₁ (omega arith) (bytesOf 4 k) e₂ refl (length-bytesOf 4 k) in
-    behind-it w₂ (omega arith) (signedBytes 8 gain) e₃ refl (length-signedBytes 8 gain) .is
+    behind-it w₂ (omega arith) (signedBytes 8 slope) e₃ refl (length-signedBytes 8 slope) .is
 
 put-requires : tie.Need-put-requires
 put-requires c κs = search needs
@@ -54,8 +56,8 @@ returns c =
     let s = q1 .before .before .before in
     let x = s .args in
     let k = q2 .before .choice in
-    let e = toZ-ofZ (s .fits .gain) in
-    row (x .at) (x .many) (choice (x .gain) (x .many)) (x .gain) (x .area .now) _ _ _ (s .pre .0)
+    let e = toZ-ofZ (s .fits .slope) in
+    row (x .at) (x .many) (choice (x .slope) (x .many)) (x .slope) (x .area .now) _ _ _ (s .pre .0)
     (q1 .put .ensures)
     (over-same (x .at + 4) _ _ (ap (bytesOf 4) (k .ensures ∙ ap (λ g. choice g (x .many)) e)) (q2 .put2 .ensures))
     (over-same (x .at + 8) _ _ (ap (signedBytes 8) e) (q3 .put-i64 .ensures))

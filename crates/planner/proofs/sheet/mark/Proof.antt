@@ -5,8 +5,8 @@ use Prim.Native.Nat.{ℕ, _≤_}
 use native.Mathlib.Omega.{arith}
 use borrow.Author.Needs.{needs}
 use lib.ListN.{length, set, length-set}
-use Rattle.jobs.specs.Sheet.{answerMark}
-use Rattle.planner.specs.Area.{over}
+use Rattle.jobs.specs.SheetLayout.{answerMark}
+use Rattle.bytes.specs.Over.{over}
 use Rattle.planner.proofs.sheet.mark.Statement.{statement}
 use Rattle.planner.proofs.sheet.mark.Tie as tie
 

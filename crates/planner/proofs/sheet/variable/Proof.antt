@@ -8,12 +8,14 @@ use Rattle.ints.specs.Within.{Within}
 use Rattle.ints.proofs.{ℤ, List, arith}
 use Rattle.ints.proofs.Signed.{held}
 use Rattle.runs.specs.declared.Run.{Run}
-use Rattle.jobs.specs.Bytes.{bytesOf, signedBytes}
-use Rattle.families.specs.Plan.{variableRow}
-use Rattle.families.proofs.Sizes.{first-within, step-within}
-use Rattle.planner.specs.Area.{over}
-use Rattle.planner.proofs.Overwriting.{over-same, Written, behind-it, length-bytesOf, length-signedBytes}
-use Rattle.solver.proofs.Sizes.{held-first, held-step, crossable}
+use Rattle.bytes.specs.LittleEndian.{bytesOf, signedBytes}
+use Rattle.jobs.specs.SheetLayout.{sheetVariable}
+use Rattle.families.proofs.FamilySizes.{first-within, step-within}
+use Rattle.bytes.specs.Over.{over}
+use Rattle.bytes.proofs.LittleEndian.{length-bytesOf}
+use Rattle.bytes.proofs.TwosComplement.{length-signedBytes}
+use Rattle.bytes.proofs.Over.{over-same, Written, behind-it}
+use Rattle.solver.proofs.In64Bits.{held-first, held-step, crossable}
 use Rattle.planner.proofs.sheet.variable.Statement.{statement}
 use Rattle.planner.proofs.sheet.variable.Tie as tie
 
@@ -24,8 +26,8 @@ asked {n} {x} h w e = subst (Within 2000000000) (sym e) record { size = omega (a
 -- the five fields
 row : (at : ℕ) (number : ℤ) (r : Run) (group : ℕ) (a l₁ l₂ l₃ l₄ l₅ : List ℕ) → at + 16 ≤ length a →
     l₁ ≡ over at (signedBytes 4 number) a → l₂ ≡ over (at + 4) (signedBytes 4 (r .first)) l₁ → l₃ ≡ over (at + 8) (signedBytes 4 (r .step)) l₂ →
-    l₄ ≡ over (at + 12) (bytesOf 2 group) l₃ → l₅ ≡ over (at + 14) (bytesOf 2 0) l₄ → l₅ ≡ over at (variableRow number r group) a
-unfolding variableRow
+    l₄ ≡ over (at + 12) (bytesOf 2 group) l₃ → l₅ ≡ over (at + 14) (bytesOf 2 0) l₄ → l₅ ≡ over at (sheetVariable number r group) a
+unfolding sheetVariable
 row at number r group a l₁ l₂ l₃ l₄ l₅ h e₁ e₂ e₃ e₄ e₅ =
     let w₁ : Written at 4 a (signedBytes 4 number) l₁ = record { is = e₁; wide = length-signedBytes 4 number } in
     let w₂ = behind-it w₁ (omega arith) (signedBytes 4 (r .first)) e₂ refl (length-signedBytes 4 (r .first)) in

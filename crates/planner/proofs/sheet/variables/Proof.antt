@@ -1,32 +1,50 @@
 -- `variables` meets its contract: row for row.
 use mathlib.Core.Path.{_≡_, refl, sym, _∙_, ap, subst}
-use Prim.Native.Nat.{_+_, _*_, _-_, _≤_}
+use mathlib.Core.List.{List}
+use Prim.Native.Nat.{ℕ, _+_, _*_, _-_, _≤_}
 use native.Mathlib.Omega.{arith}
-use borrow.Author.Needs.{needs}
-use lib.ListN.{getD}
-use Rattle.families.specs.Plan.{variableRow}
-use Rattle.planner.specs.Area.{over}
-use lib.IntN.{pos}
+use lib.ListN.{length, getD}
+use lib.IntN.{ℤ}
 use Rattle.ints.specs.Within.{Within}
-use Rattle.solver.specs.Arrays.{groupIn, runIn}
-use Rattle.planner.specs.Choices.{numberAt, variableRowsOf}
-use Rattle.solver.proofs.Sizes.{held-element}
-use Rattle.planner.proofs.Choosing.{number-within, held-number}
-use Rattle.planner.proofs.Overwriting.{over-none, over-same}
-use Rattle.planner.proofs.Laying.{laid, laid-length, variables-none, variables-next, length-variables}
+use Rattle.runs.specs.declared.Run.{Run}
+use Rattle.jobs.specs.Solution.{number}
+use Rattle.jobs.specs.SheetLayout.{sheetVariable, sheetVariables}
+use Rattle.jobs.proofs.SheetFields.{length-variables}
+use Rattle.solver.specs.StateArrays.{runIn}
+use Rattle.solver.proofs.In64Bits.{held-within}
+use Rattle.bytes.specs.Over.{over}
+use Rattle.bytes.proofs.Over.{over-none, over-same}
+use Rattle.planner.proofs.SheetRows.{laid, laid-length, variables-none, variables-next}
 use Rattle.planner.proofs.sheet.variables.Statement.{statement}
 use Rattle.planner.proofs.sheet.variables.Tie as tie
 
+-- the rows of the first i variables
+abbrev rows : List Run → List ℤ → List ℕ → ℕ → List ℕ
+rows runs numbers components i = sheetVariables (number numbers) (runIn runs) (λ k. getD components k 0) i
+
 abbrev Inv-loop : tie.InvT-loop
-Inv-loop area₀ n groups runs gains numbers i₀ area i = (i ≤ n) × (area ≡ over 24 (variableRowsOf groups runs gains numbers i) area₀)
+Inv-loop area₀ n runs numbers components i₀ area i = (i ≤ n) × (area ≡ over 24 (rows runs numbers components i) area₀)
 
 abbrev μ-loop : tie.MeasureT-loop
-μ-loop area₀ n groups runs gains numbers i₀ area i = n - i
+μ-loop area₀ n runs numbers components i₀ area i = n - i
+
+module _ (runs : List Run) (numbers : List ℤ) (components : List ℕ) (a x : List ℕ) where
+  -- the area stays as long as it is
+  kept : (n i : ℕ) → i ≤ n → 24 + 16 * n ≤ length a → x ≡ over 24 (rows runs numbers components i) a → length x ≡ length a
+  kept n i h room e = laid-length 24 i (rows runs numbers components i) a x (length-variables (number numbers) (runIn runs) (λ k. getD components k 0) i) (omega arith) e
+
+  -- one row more
+  more : (n i : ℕ) (y : List ℕ) → i ≤ n → 24 + 16 * n ≤ length a → x ≡ over 24 (rows runs numbers components i) a →
+      y ≡ over (24 + 16 * i) (sheetVariable (number numbers i) (runIn runs i) (getD components i 0)) x → y ≡ over 24 (rows runs numbers components (i + 1)) a
+  more n i y h room e f =
+      laid 24 i (rows runs numbers components i) (sheetVariable (number numbers i) (runIn runs i) (getD components i 0)) a x y
+      (length-variables (number numbers) (runIn runs) (λ k. getD components k 0) i) (omega arith) refl e f
+      ∙ ap (λ b. over 24 b a) (variables-next (number numbers) (runIn runs) (λ k. getD components k 0) i)
 
 loop-holds : tie.Need-loop-holds Inv-loop μ-loop
 loop-holds c =
     let x = c .before .args in
-    (omega arith, sym (ap (λ b. over 24 b (x .area .now)) (variables-none (x .t2) (x .t3) (x .t4) (x .t5)) ∙ over-none 24 (x .area .now) (omega arith)))
+    (omega arith, sym (ap (λ b. over 24 b (x .area .now)) (variables-none (number (x .t3)) (runIn (x .t2)) (λ k. getD (x .t4) k 0)) ∙ over-none 24 (x .area .now) (omega arith)))
 
 mul-run : tie.Need-mul-run Inv-loop μ-loop
 mul-run c = omega arith
@@ -34,57 +52,32 @@ mul-run c = omega arith
 array-copy-out-run : tie.Need-array-copy-out-run Inv-loop μ-loop
 array-copy-out-run c = omega arith
 
-mul-l : tie.Need-mul-l Inv-loop μ-loop
-mul-l c = omega arith
-
-array-read-l : tie.Need-array-read-l Inv-loop μ-loop
-array-read-l c = omega arith
-
-cast-l : tie.Need-cast-l Inv-loop μ-loop
-cast-l c = search needs
-
 mul-variable : tie.Need-mul-variable Inv-loop μ-loop
 mul-variable c = omega arith
 
 add-variable : tie.Need-add-variable Inv-loop μ-loop
 add-variable c = omega arith
 
-mul-number : tie.Need-mul-number Inv-loop μ-loop
-mul-number c = let l = c .before .before .before .loop in let s = c .before .before .before .before .before in omega (arith, s .pre .1 .1 .0 .at (l .i) (omega arith))
-
-array-copy-out-number : tie.Need-array-copy-out-number Inv-loop μ-loop
-array-copy-out-number c = let l = c .before .before .before .loop in let s = c .before .before .before .before .before in omega (arith, s .pre .1 .1 .0 .at (l .i) (omega arith))
-
-number-requires : tie.Need-number-requires Inv-loop μ-loop
-number-requires c κs = let l = c .before .before .before .before .loop in let s = c .before .before .before .before .before .before in (s .pre .1 .1 .1 .0 .at (l .i) (omega arith), s .pre .1 .1 .1 .1 .at (l .i) (omega arith))
-
 mul-variable-2 : tie.Need-mul-variable-2 Inv-loop μ-loop
 mul-variable-2 c = omega arith
+
+array-copy-out-variable : tie.Need-array-copy-out-variable Inv-loop μ-loop
+array-copy-out-variable c = omega arith
+
+mul-variable-3 : tie.Need-mul-variable-3 Inv-loop μ-loop
+mul-variable-3 c = omega arith
 
 array-read-variable : tie.Need-array-read-variable Inv-loop μ-loop
 array-read-variable c = omega arith
 
--- the number that is chosen, where the gain is as the array has it
-chosen : (c : tie.After-number Inv-loop μ-loop) →
-    let x = c .before .before .before .before .before .before .before .args in
-    let i = c .before .before .before .before .before .loop .i in
-    c .number .result ≡ numberAt (runIn (x .t3) i) (getD (x .t4) (groupIn (x .t2) i) (pos 0))
-chosen c =
-    let x = c .before .before .before .before .before .before .before .args in
-    let i = c .before .before .before .before .before .loop .i in
-    c .number .ensures ∙ ap (numberAt (runIn (x .t3) i)) (held-element (getD (x .t4) (groupIn (x .t2) i) (pos 0)) (c .before .number-arg .given))
-
 variable-requires : tie.Need-variable-requires Inv-loop μ-loop
 variable-requires c κs =
-    let l = c .before .before .before .before .before .loop in
-    let s = c .before .before .before .before .before .before .before in
+    let l = c .before .before .before .before .loop in
+    let s = c .before .before .before .before .before .before in
     let x = s .args in
-    let f = s .pre .1 .1 .1 .0 .at (l .i) (omega arith) in
-    let h = s .pre .1 .1 .1 .1 .at (l .i) (omega arith) in
-    let g = getD (x .t4) (groupIn (x .t2) (l .i)) (pos 0) in
-    let e : c .number .result ≡ numberAt (runIn (x .t3) (l .i)) g = chosen c in (
-      omega (arith, laid-length 24 (l .i) (variableRowsOf (x .t2) (x .t3) (x .t4) (x .t5) (l .i)) (x .area .now) (l .area) (length-variables (x .t2) (x .t3) (x .t4) (x .t5) (l .i)) (omega arith) (l .inv .1)),
-      (subst (Within 1000000000) (sym (held-number f h g e)) (number-within f h g), f),
+    let w = s .pre .1 .1 .1 .at (l .i) (omega arith) in (
+      omega (arith, kept (x .t2) (x .t3) (x .t4) (x .area .now) (l .area) (x .n) (l .i) (omega arith) (s .pre .1 .0) (l .inv .1)),
+      (subst (Within 1000000000) (sym (held-within (omega arith) w)) w, s .pre .1 .1 .0 .at (l .i) (omega arith)),
     )
 
 add-i : tie.Need-add-i Inv-loop μ-loop
@@ -96,28 +89,28 @@ loop-less c = omega arith
 loop-again : tie.Need-loop-again Inv-loop μ-loop
 loop-again c =
     let v = c .before .before in
-    let n = v .before in
-    let l = n .before .before .before .before .before .loop in
-    let s = n .before .before .before .before .before .before .before in
+    let l = c .before .before .before .before .before .before .before .loop in
+    let s = c .before .before .before .before .before .before .before .before .before in
     let x = s .args in
-    let f = s .pre .1 .1 .1 .0 .at (l .i) (omega arith) in
-    let h = s .pre .1 .1 .1 .1 .at (l .i) (omega arith) in
-    let g = getD (x .t4) (groupIn (x .t2) (l .i)) (pos 0) in
-    let e = over-same (24 + 16 * l .i) (l .area) _ (ap (λ z. variableRow z (runIn (x .t3) (l .i)) (getD (x .t5) (l .i) 0)) (held-number f h g (chosen n))) (v .variable .ensures) in (
+    let w = s .pre .1 .1 .1 .at (l .i) (omega arith) in (
       omega arith,
-      laid 24 (l .i) (variableRowsOf (x .t2) (x .t3) (x .t4) (x .t5) (l .i)) _ (x .area .now) (l .area) _ (length-variables (x .t2) (x .t3) (x .t4) (x .t5) (l .i)) (omega arith) refl (l .inv .1) e
-          ∙ ap (λ b. over 24 b (x .area .now)) (variables-next (x .t2) (x .t3) (x .t4) (x .t5) (l .i)),
+      more (x .t2) (x .t3) (x .t4) (x .area .now) (l .area) (x .n) (l .i) _ (omega arith) (s .pre .1 .0) (l .inv .1)
+          (over-same (24 + 16 * l .i) (l .area) _ (ap (λ z. sheetVariable z (runIn (x .t2) (l .i)) (getD (x .t4) (l .i) 0)) (held-within (omega arith) w)) (v .variable .ensures)),
     )
 
 same-length : tie.Need-same-length Inv-loop μ-loop
-same-length c = let l = c .before .loop in let x = c .before .before .before .args in laid-length 24 (l .i) (variableRowsOf (x .t2) (x .t3) (x .t4) (x .t5) (l .i)) (x .area .now) (l .area) (length-variables (x .t2) (x .t3) (x .t4) (x .t5) (l .i)) (omega arith) (l .inv .1)
+same-length c =
+    let l = c .before .loop in
+    let s = c .before .before .before in
+    let x = s .args in
+    kept (x .t2) (x .t3) (x .t4) (x .area .now) (l .area) (x .n) (l .i) (omega arith) (s .pre .1 .0) (l .inv .1)
 
 returns : tie.Need-returns Inv-loop μ-loop
 returns c =
     let l = c .before .loop in
     let x = c .before .before .before .args in
     let e : l .i ≡ x .n = omega arith in
-    l .inv .1 ∙ ap (λ k. over 24 (variableRowsOf (x .t2) (x .t3) (x .t4) (x .t5) k) (x .area .now)) e
+    l .inv .1 ∙ ap (λ k. over 24 (rows (x .t2) (x .t3) (x .t4) k) (x .area .now)) e
 
 pub variables-spec : {M : Type 1} → statement M
 variables-spec =
@@ -128,15 +121,11 @@ variables-spec =
     loop-holds
     mul-run
     array-copy-out-run
-    mul-l
-    array-read-l
-    cast-l
     mul-variable
     add-variable
-    mul-number
-    array-copy-out-number
-    number-requires
     mul-variable-2
+    array-copy-out-variable
+    mul-variable-3
     array-read-variable
     variable-requires
     add-i

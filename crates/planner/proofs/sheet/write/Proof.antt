@@ -1,81 +1,91 @@
 -- `write` meets its contract: the header, the variables' rows and, in the part lent for them, the groups' rows.
-use mathlib.Core.Path.{_≡_, refl, sym, _∙_, ap}
+use mathlib.Core.Path.{_≡_, refl, _∙_, ap}
 use mathlib.Core.List.{List}
 use Prim.Native.Nat.{ℕ, _+_, _*_, _-_, _≤_}
 use borrow.Author.Needs.{needs}
 use borrow.Rule.Slice.PartMut.{midOf, putMid}
 use native.Mathlib.Omega.{arith}
-use lib.ListN.{length, drop, length-take, length-drop}
+use lib.ListN.{length, getD, drop, length-take, length-drop}
 use lib.IntN.{ℤ}
 use mir.Facts.{toZ-ofZ}
-use Rattle.lists.specs.Table.{table}
-use Rattle.lists.proofs.Table.{table-at}
+use Rattle.lists.specs.Table.{Tabulates}
 use Rattle.runs.specs.declared.Run.{Run}
-use Rattle.families.specs.Plan.{leadsBy, componentBy, headerRow}
-use Rattle.planner.specs.Area.{over}
-use Rattle.solver.specs.Arrays.{Holds}
-use Rattle.solver.specs.Arrays.{groupIn}
-use Rattle.planner.specs.Choices.{variableRowsOf, groupRowsOf, sheetOf}
-use Rattle.solver.proofs.Leads.{leads-length}
-use Rattle.planner.proofs.Overwriting.{over-same, over-lent, Written, behind-it, length-over}
-use Rattle.planner.proofs.Laying.{length-headerRow, variables-same, length-variables, length-groups}
+use Rattle.jobs.specs.Solution.{number}
+use Rattle.jobs.specs.SheetLayout.{sheetHeader, sheetVariables, sheetGroups, laidOut}
+use Rattle.jobs.proofs.SheetFields.{length-header, length-variables, length-groups}
+use Rattle.families.specs.ModelFindings.{leadsBy, componentBy}
+use Rattle.solver.specs.StateArrays.{labelIn, runIn}
+use Rattle.solver.proofs.LowestVariables.{leads-length}
+use Rattle.bytes.specs.Over.{over}
+use Rattle.planner.specs.Choice.{chosenIn, findingsIn}
+use Rattle.bytes.proofs.Over.{over-same, over-lent, Written, behind-it, length-over}
+use Rattle.planner.proofs.SheetRows.{variables-same}
 use Rattle.planner.proofs.sheet.write.Statement.{statement}
 use Rattle.planner.proofs.sheet.write.Tie as tie
 
-module _ (groups : List ℕ) (runs : List Run) (gains : List ℤ) (n g : ℕ) (worth : ℤ) (q : g ≡ length (leadsBy (groupIn groups) n)) where
-  -- the numbers that are found are those of the definition
-  numbered : (numbers : List ℕ) → Holds 0 (componentBy (groupIn groups) n) n numbers →
-      variableRowsOf groups runs gains numbers n ≡ variableRowsOf groups runs gains (table (componentBy (groupIn groups) n) n) n
-  numbered numbers h =
-      variables-same groups runs gains numbers (table (componentBy (groupIn groups) n) n) n
-      (λ i b. h .at i b ∙ sym (table-at (componentBy (groupIn groups) n) n i 0 b))
+module _ (labels : List ℕ) (runs : List Run) (slopes numbers : List ℤ) (n g : ℕ) (objective : ℤ) (q : g ≡ length (leadsBy (labelIn labels) n)) where
+  -- the variables' rows, with the numbers of the groups as they are found, and as the definition has them
+  abbrev rows : (ℕ → ℕ) → List ℕ
+  rows group = sheetVariables (number numbers) (runIn runs) group n
+
+  abbrev groupRows : List ℕ
+  groupRows = sheetGroups (runIn runs) (chosenIn runs slopes) (number slopes) (leadsBy (labelIn labels) n)
+
+  numbered : (components : List ℕ) → Tabulates 0 (componentBy (labelIn labels) n) n components → rows (λ i. getD components i 0) ≡ rows (componentBy (labelIn labels) n)
+  numbered components h = variables-same (number numbers) (runIn runs) (λ i. getD components i 0) (componentBy (labelIn labels) n) n (h .at)
 
   -- the area stays as long as it is
-  first-long : (a l₁ : List ℕ) → 24 ≤ length a → l₁ ≡ over 0 (headerRow n g worth) a → length l₁ ≡ length a
-  first-long a l₁ h e = ap length e ∙ length-over 0 (headerRow n g worth) a (omega (arith, length-headerRow n g worth))
+  first-long : (a l₁ : List ℕ) → 24 ≤ length a → l₁ ≡ over 0 (sheetHeader n g objective) a → length l₁ ≡ length a
+  first-long a l₁ h e = ap length e ∙ length-over 0 (sheetHeader n g objective) a (omega (arith, length-header n g objective))
 
-  second-long : (numbers l₁ l₂ : List ℕ) → 24 + 16 * n ≤ length l₁ → l₂ ≡ over 24 (variableRowsOf groups runs gains numbers n) l₁ → length l₂ ≡ length l₁
-  second-long numbers l₁ l₂ h e = ap length e ∙ length-over 24 (variableRowsOf groups runs gains numbers n) l₁ (omega (arith, length-variables groups runs gains numbers n))
+  second-long : (group : ℕ → ℕ) (l₁ l₂ : List ℕ) → 24 + 16 * n ≤ length l₁ → l₂ ≡ over 24 (rows group) l₁ → length l₂ ≡ length l₁
+  second-long group l₁ l₂ h e = ap length e ∙ length-over 24 (rows group) l₁ (omega (arith, length-variables (number numbers) (runIn runs) group n))
 
   -- l₁, l₂ and l₃ are the area after the header, after the variables' rows, and the part with the groups' rows
-  whole : (numbers a l₁ l₂ l₃ : List ℕ) → 24 + 16 * n + 16 * g ≤ length a → Holds 0 (componentBy (groupIn groups) n) n numbers → l₁ ≡ over 0 (headerRow n g worth) a →
-      l₂ ≡ over 24 (variableRowsOf groups runs gains numbers n) l₁ → length l₂ ≡ length a → l₃ ≡ over 0 (groupRowsOf groups runs gains n) (midOf (24 + 16 * n) (length l₂ - (24 + 16 * n)) l₂) →
-      putMid (24 + 16 * n) (length l₂ - (24 + 16 * n)) l₂ l₃ ≡ over 0 (sheetOf groups runs gains n worth) a
-  unfolding sheetOf
-  whole numbers a l₁ l₂ l₃ room h e₁ e₂ long e₃ =
-      let w₁ : Written 0 24 a (headerRow n (length (leadsBy (groupIn groups) n)) worth) l₁ =
-      record { is = over-same 0 a l₁ (ap (λ k. headerRow n k worth) q) e₁; wide = length-headerRow n (length (leadsBy (groupIn groups) n)) worth } in
-      let rows = variableRowsOf groups runs gains (table (componentBy (groupIn groups) n) n) n in
-      let w₂ = behind-it w₁ (omega arith) rows (over-same 24 l₁ l₂ (numbered numbers h) e₂) refl (length-variables groups runs gains (table (componentBy (groupIn groups) n) n) n) in
-      behind-it w₂ (omega arith) (groupRowsOf groups runs gains n) (over-lent (24 + 16 * n) (groupRowsOf groups runs gains n) l₂ l₃ (omega (arith, long)) e₃) (omega arith) (length-groups groups runs gains n) .is
+  whole : (components a l₁ l₂ l₃ : List ℕ) → 24 + 16 * n + 16 * g ≤ length a → Tabulates 0 (componentBy (labelIn labels) n) n components → l₁ ≡ over 0 (sheetHeader n g objective) a →
+      l₂ ≡ over 24 (rows (λ i. getD components i 0)) l₁ → length l₂ ≡ length a → l₃ ≡ over 0 groupRows (midOf (24 + 16 * n) (length l₂ - (24 + 16 * n)) l₂) →
+      putMid (24 + 16 * n) (length l₂ - (24 + 16 * n)) l₂ l₃ ≡ over 0 (laidOut (findingsIn labels runs slopes numbers n objective)) a
+  unfolding laidOut
+  whole components a l₁ l₂ l₃ room h e₁ e₂ long e₃ =
+      let w₁ : Written 0 24 a (sheetHeader n (length (leadsBy (labelIn labels) n)) objective) l₁ =
+      record { is = over-same 0 a l₁ (ap (λ k. sheetHeader n k objective) q) e₁; wide = length-header n (length (leadsBy (labelIn labels) n)) objective } in
+      let all = rows (componentBy (labelIn labels) n) in
+      let w₂ = behind-it w₁ (omega arith) all (over-same 24 l₁ l₂ (numbered components h) e₂) refl (length-variables (number numbers) (runIn runs) (componentBy (labelIn labels) n) n) in
+      behind-it w₂ (omega arith) groupRows (over-lent (24 + 16 * n) groupRows l₂ l₃ (omega (arith, long)) e₃) (omega arith)
+      (length-groups (runIn runs) (chosenIn runs slopes) (number slopes) (leadsBy (labelIn labels) n)) .is
 
 numbers-requires : tie.Need-numbers-requires
 numbers-requires c κs = search needs
 
 header-requires : tie.Need-header-requires
-header-requires c κs = let s = c .before .before .before in let x = s .args in (s .pre .0, (omega (arith, s .pre .1 .1 .1 .1 .0, leads-length (groupIn (x .groups)) (x .n)), omega (arith, s .pre .1 .1 .1 .1 .1)))
+header-requires c κs =
+    let s = c .before .before .before in
+    let p = s .pre .1 .1 .1 .1 .1 in
+    (s .pre .0, (omega (arith, p .0, leads-length (labelIn (s .args .labels)) (s .args .n)), omega (arith, p .1)))
 
-headed : (c : tie.After-header) → let x = c .before .before .before .before .args in c .header .last .0 ≡ over 0 (headerRow (x .n) (x .g) (x .worth)) (x .area .now)
-headed c = let s = c .before .before .before .before in over-same 0 _ _ (ap (headerRow (s .args .n) (s .args .g)) (toZ-ofZ (s .fits .worth))) (c .header .ensures)
+headed : (c : tie.After-header) → let x = c .before .before .before .before .args in c .header .last .0 ≡ over 0 (sheetHeader (x .n) (x .g) (x .objective)) (x .area .now)
+headed c = let s = c .before .before .before .before in over-same 0 _ _ (ap (sheetHeader (s .args .n) (s .args .g)) (toZ-ofZ (s .fits .objective))) (c .header .ensures)
 
 after-header : (c : tie.After-header) → length (c .header .last .0) ≡ length (c .before .before .before .before .args .area .now)
 after-header c =
     let s = c .before .before .before .before in
     let x = s .args in
-    first-long (x .groups) (x .runs) (x .gains) (x .n) (x .g) (x .worth) (s .pre .1 .1 .1 .1 .0) (x .area .now) _ (omega (arith, s .pre .1 .1 .1 .1 .1)) (headed c)
+    let p = s .pre .1 .1 .1 .1 .1 in
+    first-long (x .labels) (x .runs) (x .slopes) (x .numbers) (x .n) (x .g) (x .objective) (p .0) (x .area .now) _ (omega (arith, p .1)) (headed c)
 
 variables-requires : tie.Need-variables-requires
 variables-requires c κs =
     let s = c .before .before .before .before .before .before .before in
-    let p = s .pre in
-    (p .0, (omega (arith, p .1 .1 .1 .1 .1, after-header (c .before .before .before)), (record { at = p .1 .0 .low }, (p .1 .1 .0, p .1 .1 .1 .0))))
+    let p = s .pre .1 .1 in
+    (s .pre .0, (omega (arith, p .1 .1 .1 .1, after-header (c .before .before .before)), (p .0 .form, p .1 .1 .0)))
 
 after-variables : (c : tie.After-variables) → length (c .variables .last .0) ≡ length (c .before .before .before .before .before .before .before .before .args .area .now)
 after-variables c =
     let q1 = c .before .before .before .before in
     let s = q1 .before .before .before .before in
     let x = s .args in
-    second-long (x .groups) (x .runs) (x .gains) (x .n) (x .g) (x .worth) (s .pre .1 .1 .1 .1 .0) (q1 .before .before .numbers .result) _ _ (omega (arith, after-header q1, s .pre .1 .1 .1 .1 .1)) (c .variables .ensures) ∙ after-header q1
+    let p = s .pre .1 .1 .1 .1 .1 in
+    second-long (x .labels) (x .runs) (x .slopes) (x .numbers) (x .n) (x .g) (x .objective) (p .0) _ _ _ (omega (arith, after-header q1, p .1)) (c .variables .ensures) ∙ after-header q1
 
 mul-rows : tie.Need-mul-rows
 mul-rows c = search needs
@@ -83,14 +93,14 @@ mul-rows c = search needs
 add-rows : tie.Need-add-rows
 add-rows c = search needs
 
-sub-components : tie.Need-sub-components
-sub-components c = search needs
+sub-group-rows : tie.Need-sub-group-rows
+sub-group-rows c = search needs
 
-part-components-start : tie.Need-part-components-start
-part-components-start c = search needs
+part-group-rows-start : tie.Need-part-group-rows-start
+part-group-rows-start c = search needs
 
-part-components-end : tie.Need-part-components-end
-part-components-end c = search needs
+part-group-rows-end : tie.Need-part-group-rows-end
+part-group-rows-end c = search needs
 
 -- the part from the groups' rows on
 lent : (c : tie.After-variables) → let x = c .before .before .before .before .before .before .before .before .args in
@@ -101,11 +111,11 @@ lent c =
     let l = c .variables .last .0 in
     omega (arith, length-take (length l - k) (drop k l), length-drop k l, after-variables c)
 
-components-requires : tie.Need-components-requires
-components-requires c κs =
+group-rows-requires : tie.Need-group-rows-requires
+group-rows-requires c κs =
     let s = c .before .before .before .before .before .before .before .before .before .before .before in
-    let p = s .pre in
-    (p .0, (omega (arith, p .1 .1 .1 .1, lent (c .before .before .before)), p .1 .1 .1 .0))
+    let p = s .pre .1 .1 .1 in
+    (s .pre .0, (omega (arith, p .1 .1 .0, p .1 .1 .1, lent (c .before .before .before)), p .0))
 
 same-length : tie.Need-same-length
 same-length c = search needs
@@ -118,12 +128,13 @@ returns c =
     let q0 = q1 .before .before in
     let s = q0 .before .before in
     let x = s .args in
-    whole (x .groups) (x .runs) (x .gains) (x .n) (x .g) (x .worth) (s .pre .1 .1 .1 .1 .0) (q0 .numbers .result) (x .area .now) _ _ _ (s .pre .1 .1 .1 .1 .1)
+    let p = s .pre .1 .1 .1 .1 .1 in
+    whole (x .labels) (x .runs) (x .slopes) (x .numbers) (x .n) (x .g) (x .objective) (p .0) (q0 .numbers .result) (x .area .now) _ _ _ (p .1)
     (q0 .numbers .ensures)
     (headed q1)
     (q2 .variables .ensures)
     (after-variables q2)
-    (q3 .components .ensures)
+    (q3 .group-rows .ensures)
 
 pub write-spec : {M : Type 1} → statement M
 write-spec =
@@ -134,9 +145,9 @@ write-spec =
     variables-requires
     mul-rows
     add-rows
-    sub-components
-    part-components-start
-    part-components-end
-    components-requires
+    sub-group-rows
+    part-group-rows-start
+    part-group-rows-end
+    group-rows-requires
     same-length
     returns)

@@ -8,13 +8,13 @@ use Rattle.ints.specs.Within.{Within}
 use Rattle.ints.proofs.{pos, ltZ}
 use Rattle.ints.proofs.Signed.{held}
 use Rattle.runs.specs.Run.{bound}
-use Rattle.runs.specs.Workings.{Equation, InLimits}
+use Rattle.runs.specs.Workings.{Equation, CarryLimits}
 use Rattle.runs.specs.Method.{Interval, between, image}
-use Rattle.runs.proofs.Widths.{fits-b, fits-q}
+use Rattle.runs.proofs.CarryWidths.{fits-b, fits-q}
 use Rattle.runs.proofs.Equation.image.Statement.{statement}
 use Rattle.runs.proofs.Equation.image.Tie as tie
 
-module _ (e : Equation) (i : Interval) (p : InLimits e × (Within bound (i .low) × Within bound (i .high))) where
+module _ (e : Equation) (i : Interval) (p : CarryLimits e × (Within bound (i .low) × Within bound (i .high))) where
   test-is : {t : Bool} → ltZ (pos 0) (held (e .b)) ≡ t → ltZ (pos 0) (e .b) ≡ t
   test-is h = ap (ltZ (pos 0)) (sym (toZ-ofZ (fits-b (p .0)))) ∙ h
 

@@ -6,20 +6,20 @@ use mir.Syntax.{w64}
 use mir.Val.{SFits}
 use mir.Facts.{toZ-ofZ}
 use Rattle.ints.specs.Within.{Within}
-use Rattle.ints.proofs.{ℤ, _*ℤ_, [], _∷_, arith, lin, _&_, facts, within-mul, signed}
+use Rattle.ints.proofs.{ℤ, _*ℤ_, [], _∷_, arith, lin, within-mul, signed}
 use Rattle.ints.proofs.Signed.{held}
 use Rattle.runs.specs.Run.{Run, OneForm, bound}
-use Rattle.runs.specs.Workings.{Equation, InLimits}
-use Rattle.runs.specs.Method.{stride, value}
-use Rattle.runs.proofs.Spans.{first-within, stride-above, stride-within}
-use Rattle.runs.proofs.Widths.{fits-a, fits-b, fits-q}
-use Rattle.runs.proofs.Solving.{same-congruence}
+use Rattle.runs.specs.Workings.{Equation, CarryLimits}
+use Rattle.runs.specs.Method.{stride, partnerValue}
+use Rattle.runs.proofs.ClassOfRun.{first-within, stride-small}
+use Rattle.runs.proofs.CarryWidths.{fits-a, fits-b, fits-q}
+use Rattle.runs.proofs.CongruenceSolutions.{same-congruence}
 use Rattle.runs.proofs.Equation.places.Statement.{statement}
 use Rattle.runs.proofs.Equation.places.Tie as tie
 
-module _ (e : Equation) (q : Run) (p : InLimits e × (OneForm q × (1 ≤ q .many))) (t : ℤ) (is : t ≡ stride q) where
+module _ (e : Equation) (q : Run) (p : CarryLimits e × (OneForm q × (1 ≤ q .many))) (t : ℤ) (is : t ≡ stride q) where
   small : Within 2000000000 t
-  small = lin (t ∷ stride q ∷ []) (is & stride-above (p .1 .0) (p .1 .1) & stride-within (p .1 .0) (p .1 .1)) (search facts depth 20) (omega arith)
+  small = rw is (stride-small (p .1 .0) (p .1 .1))
 
   fits-t : SFits w64 t
   fits-t = lin (t ∷ []) small (search signed depth 20) (omega arith)
@@ -39,8 +39,8 @@ module _ (e : Equation) (q : Run) (p : InLimits e × (OneForm q × (1 ≤ q .man
   first-asked : Within bound (held (q .first))
   first-asked = rw (toZ-ofZ (fits-q (p .0) first)) first
 
-  v-is : (v : ℤ) → SFits w64 v → v ≡ value e (held (q .first)) → held v ≡ value e (q .first)
-  v-is v fits d = toZ-ofZ fits ∙ d ∙ ap (value e) (toZ-ofZ (fits-q (p .0) first))
+  v-is : (v : ℤ) → SFits w64 v → v ≡ partnerValue e (held (q .first)) → held v ≡ partnerValue e (q .first)
+  v-is v fits d = toZ-ofZ fits ∙ d ∙ ap (partnerValue e) (toZ-ofZ (fits-q (p .0) first))
 
 stride-requires : tie.Need-stride-requires
 stride-requires c κs = search needs
@@ -51,8 +51,8 @@ mul-t4 c =
     let s = k .before in
     u-asked (s .args .self) (s .args .q) (s .pre) (k .stride .result) (k .stride .ensures)
 
-value-requires : tie.Need-value-requires
-value-requires c κs =
+partner-value-requires : tie.Need-partner-value-requires
+partner-value-requires c κs =
     let k = c .before .before .before in
     let s = k .before in
     (s .pre .0, first-asked (s .args .self) (s .args .q) (s .pre) (k .stride .result) (k .stride .ensures))
@@ -64,8 +64,8 @@ returns c =
     let s = k .before in
     same-congruence
     (u-is (s .args .self) (s .args .q) (s .pre) (k .stride .result) (k .stride .ensures))
-    (v-is (s .args .self) (s .args .q) (s .pre) (k .stride .result) (k .stride .ensures) (v .value .result) record { sfits = v .value .ok } (v .value .ensures))
+    (v-is (s .args .self) (s .args .q) (s .pre) (k .stride .result) (k .stride .ensures) (v .partner-value .result) record { sfits = v .partner-value .ok } (v .partner-value .ensures))
     (toZ-ofZ (fits-a (s .pre .0)))
 
 pub places-spec : {M : Type 1} → statement M
-places-spec = tie.close (tie.spec stride-requires mul-t4 value-requires returns)
+places-spec = tie.close (tie.spec stride-requires mul-t4 partner-value-requires returns)

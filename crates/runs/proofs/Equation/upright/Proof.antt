@@ -6,9 +6,9 @@ use mir.Val.{SFits}
 use mir.Facts.{toZ-ofZ}
 use Rattle.ints.proofs.{ℤ, pos, negℤ, _-ℤ_, ltZ, [], _∷_, arith, lin, lin₀, facts, signed}
 use Rattle.ints.proofs.Signed.{held}
-use Rattle.runs.specs.Workings.{Equation, InLimits}
+use Rattle.runs.specs.Workings.{Equation, CarryLimits}
 use Rattle.runs.specs.Method.{upright}
-use Rattle.runs.proofs.Widths.{fits-a, fits-b, fits-c}
+use Rattle.runs.proofs.CarryWidths.{fits-a, fits-b, fits-c}
 use Rattle.runs.proofs.Equation.upright.Statement.{statement}
 use Rattle.runs.proofs.Equation.upright.Tie as tie
 
@@ -23,7 +23,7 @@ turned-asked x f g =
     let e : pos 0 -ℤ x ≡ negℤ x = lin₀ (x ∷ []) (search facts depth 20) (omega arith) in
     rw (toZ-ofZ f, e) g
 
-module _ (e : Equation) (lim : InLimits e) where
+module _ (e : Equation) (lim : CarryLimits e) where
   neg-a : SFits w64 (negℤ (e .a))
   neg-a = lin (e .a ∷ []) (lim .left) (search signed depth 20) (omega arith)
 

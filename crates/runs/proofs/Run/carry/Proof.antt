@@ -1,18 +1,17 @@
--- `Run::carry` meets its contract: it is the method of Carries.antt, call by call.
+-- `Run::carry` meets its contract: it is the method of CarryMethod.antt, call by call.
 use mathlib.Core.Path.{_≡_, sym, _∙_, subst}
 use mathlib.Core.Logic.{_≢_}
 use Prim.Native.Nat.{_≤_}
 use native.Mathlib.Omega.{arith}
 use borrow.Author.Needs.{needs}
-use lib.IntN.{pos}
-use lib.Signed.{_<ℤ_}
 use Rattle.runs.specs.declared.congruence.Solutions.{Solutions}
 use Rattle.runs.specs.declared.congruence.Solutions.the-variants.{Nothing, Every}
-use Rattle.runs.specs.Run.{Run, OneForm}
+use Rattle.runs.specs.Run.{Run}
 use Rattle.runs.specs.Search.{carry}
-use Rattle.runs.specs.Workings.{Equation, InLimits}
-use Rattle.runs.specs.Method.{Congruence, InReach, AllSolutions, Solves, placesWithPartner, carryBy, upright}
-use Rattle.runs.proofs.Carries.{IsCarry, is-carry, carried, empty-carried, places-reach, upright-limits, upright-above, upright-carry}
+use Rattle.runs.specs.Workings.{Equation}
+use Rattle.runs.specs.Method.{Congruence, Carriable, InReach, AllSolutions, Solves, placesWithPartner, carryBy, upright}
+use Rattle.runs.proofs.CarryMembers.{IsCarry, is-carry, empty-carried}
+use Rattle.runs.proofs.CarryMethod.{carried, places-reach, upright-carriable, upright-carry}
 use Rattle.runs.proofs.Run.carry.Statement.{statement}
 use Rattle.runs.proofs.Run.carry.Tie as tie
 use Rattle.runs.proofs.Run.carry.Reads as reads
@@ -38,17 +37,11 @@ module _ (c : lts.After-upright claims reads.Pre reads.Post) where
   abbrev up : Equation
   up = c .upright .result
 
-  form : OneForm q
-  form = c .before .before .before .pre .0
-
   some : 1 ≤ q .many
   some = let z : q .many ≢ 0 = c .before .if1 .left in omega arith
 
-  limits : InLimits up
-  limits = subst InLimits (sym (c .upright .ensures)) (upright-limits (c .before .before .before .pre .1))
-
-  above : pos 0 <ℤ up .a
-  above = subst (λ u. pos 0 <ℤ u .a) (sym (c .upright .ensures)) (upright-above (c .before .before .before .pre .1))
+  carriable : Carriable up q
+  carriable = subst (λ u. Carriable u q) (sym (c .upright .ensures)) (upright-carriable (c .before .before .before .pre .1) (c .before .before .before .pre .0) some)
 
 -- what the congruence gave
 module _ (c : lts.After-solve claims reads.Pre reads.Post) where
@@ -60,7 +53,7 @@ module _ (c : lts.After-solve claims reads.Pre reads.Post) where
 
   carries : (r : Run) (sol : Solutions) → c .solve .result ≡ sol → r ≡ carryBy sol (up u) (q u) → r ≡ carry (e u .a) (e u .b) (e u .c) (q u)
   carries r sol eq is =
-      let k : IsCarry (up u .a) (up u .b) (up u .c) (q u) (carryBy sol (up u) (q u)) = carried (limits u) (above u) (form u) (some u) sol (subst (Solves (placesWithPartner (up u) (q u))) eq solves) in
+      let k : IsCarry (up u .a) (up u .b) (up u .c) (q u) (carryBy sol (up u) (q u)) = carried (carriable u) sol (subst (Solves (placesWithPartner (up u) (q u))) eq solves) in
       let k′ : IsCarry (upright (e u) .a) (upright (e u) .b) (upright (e u) .c) (q u) r =
       subst (λ x. IsCarry (x .a) (x .b) (x .c) (q u) r) (u .upright .ensures) (subst (IsCarry (up u .a) (up u .b) (up u .c) (q u)) (sym is) k) in
       is-carry (upright-carry (e u) k′)
@@ -81,12 +74,12 @@ upright-requires : tie.Need-upright-requires
 upright-requires c κs = search needs
 
 places-requires : tie.Need-places-requires
-places-requires c κs = (limits c, (form c, some c))
+places-requires c κs = let k = carriable c in (k .limits, (k .form, k .some))
 
 solve-requires : tie.Need-solve-requires
 solve-requires c κs =
     let u = c .before in
-    reach-asked (c .places .result) (placesWithPartner (up u) (q u)) (c .places .ensures) (places-reach (limits u) (above u) (form u) (some u))
+    reach-asked (c .places .result) (placesWithPartner (up u) (q u)) (c .places .ensures) (places-reach (carriable u))
 
 enum-told : tie.Need-enum-told
 enum-told c = search needs
@@ -102,7 +95,7 @@ carried-requires c κs =
     let k = c .before in
     let s = k .before .before in
     let every : AllSolutions (placesWithPartner (up (u s)) (q (u s))) (k .solutions .given .0 .0) = subst (Solves (placesWithPartner (up (u s)) (q (u s)))) (k .solutions .given .1) (solves s) in
-    (limits (u s), (above (u s), (form (u s), (some (u s), every))))
+    (carriable (u s), every)
 
 returns-2 : tie.Need-returns-2
 returns-2 c = carries (c .before .before .before) (c .empty2 .result) Nothing (c .before .enum-told .given .1) (c .empty2 .ensures)

@@ -14,7 +14,7 @@ use Rattle.ints.proofs.Equal.{equal-true}
 use Rattle.ints.proofs.Within.{within-true}
 use Rattle.ints.proofs.Signed.{held, bits-zero}
 use Rattle.runs.specs.Run.{Run, OneForm, isOneForm, bound}
-use Rattle.runs.proofs.Spans.{first-within}
+use Rattle.runs.proofs.ClassOfRun.{first-within}
 use Rattle.runs.proofs.Refusals.{when, one-form-iff, single-form, none-form}
 use Rattle.runs.proofs.Run.is_one_form.Statement.{statement}
 use Rattle.runs.proofs.Run.is_one_form.Tie as tie

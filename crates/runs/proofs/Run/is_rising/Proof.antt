@@ -12,7 +12,7 @@ use Rattle.ints.proofs.Within.{within-true}
 use Rattle.ints.proofs.Signed.{held, told, cast}
 use Rattle.runs.specs.Run.{Run, OneForm, isOneForm, bound}
 use Rattle.runs.specs.Method.{span}
-use Rattle.runs.proofs.Spans.{first-within, last-within, sizes}
+use Rattle.runs.proofs.ClassOfRun.{first-within, last-within, sizes}
 use Rattle.runs.proofs.Refusals.{when, one-form-iff, rising-form}
 use Rattle.runs.proofs.Run.is_rising.Statement.{statement}
 use Rattle.runs.proofs.Run.is_rising.Tie as tie

@@ -1,4 +1,4 @@
--- `Run::meet` meets its contract: it is the method of Meets.antt, call by call.
+-- `Run::meet` meets its contract: it is the method of MeetMethod.antt, call by call.
 use mathlib.Core.Path.{_≡_, _∙_, ap₂, subst}
 use mathlib.Core.Logic.{_≢_}
 use Prim.Native.Nat.{_≤_}
@@ -9,7 +9,7 @@ use Rattle.runs.specs.declared.congruence.Solutions.the-variants.{Nothin
 use Rattle.runs.specs.Run.{Run, OneForm, empty}
 use Rattle.runs.specs.Search.{meet}
 use Rattle.runs.specs.Method.{Class, Congruence, InReach, meetBy, Clippable, AllSolutions, Solves, span, common, clip, numbersAt, placesIn}
-use Rattle.runs.proofs.Meets.{is-meet, met, meet-fair, places-in-reach, meet-places, empty-left, empty-right}
+use Rattle.runs.proofs.MeetMethod.{is-meet, met, meet-fair, places-in-reach, meet-places, empty-left, empty-right}
 use Rattle.runs.proofs.Run.meet.Statement.{statement}
 use Rattle.runs.proofs.Run.meet.Tie as tie
 use Rattle.runs.proofs.Run.meet.Reads as reads

@@ -9,7 +9,7 @@ use Rattle.ints.proofs.{ℤ, pos, _+ℤ_, _*ℤ_, _≤ℤ_, List, [], _∷_, ar
 use Rattle.ints.proofs.Signed.{held}
 use Rattle.runs.specs.Run.{Run, OneForm}
 use Rattle.runs.specs.Method.{Class, Places, stride, numbersAt}
-use Rattle.runs.proofs.Spans.{first-within, stride-above, stride-within}
+use Rattle.runs.proofs.ClassOfRun.{first-within, stride-above, stride-within}
 use Rattle.runs.proofs.Run.numbers_at.Statement.{statement}
 use Rattle.runs.proofs.Run.numbers_at.Tie as tie
 

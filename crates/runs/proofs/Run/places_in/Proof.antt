@@ -9,8 +9,8 @@ use Rattle.ints.proofs.{_-ℤ_, [], _∷_, arith, lin, _&_, signed}
 use Rattle.ints.proofs.Signed.{held}
 use Rattle.runs.specs.Run.{Run, OneForm}
 use Rattle.runs.specs.Method.{stride}
-use Rattle.runs.proofs.Spans.{first-within}
-use Rattle.runs.proofs.Solving.{same-congruence}
+use Rattle.runs.proofs.ClassOfRun.{first-within}
+use Rattle.runs.proofs.CongruenceSolutions.{same-congruence}
 use Rattle.runs.proofs.Run.places_in.Statement.{statement}
 use Rattle.runs.proofs.Run.places_in.Tie as tie
 

@@ -7,7 +7,7 @@ use mir.Val.{SFits, toZ}
 use mir.Facts.{toZ-ofZ}
 use Rattle.ints.proofs.{ℤ, pos, _+ℤ_, _-ℤ_, _*ℤ_, List, [], _∷_, arith, lin, signed}
 use Rattle.runs.specs.Run.{Run, OneForm}
-use Rattle.runs.proofs.Spans.{first-within, last-within, sizes}
+use Rattle.runs.proofs.ClassOfRun.{first-within, last-within, sizes}
 use Rattle.ints.proofs.Signed.{cast}
 use Rattle.runs.proofs.Run.span.Statement.{statement}
 use Rattle.runs.proofs.Run.span.Tie as tie

@@ -11,7 +11,7 @@ use mir.Facts.{toZ-ofZ}
 use Rattle.ints.specs.Within.{Within}
 use Rattle.ints.specs.Equal.{isEqual}
 use Rattle.ints.specs.Floor.{floorDiv, floorMod}
-use Rattle.ints.specs.Division.{InLimits}
+use Rattle.ints.specs.Division.{DivisionLimits}
 use Rattle.ints.proofs.{ℤ, pos, [], _∷_, arith, lin, facts}
 use Rattle.ints.proofs.Signed.{held, bits-zero}
 use Rattle.ints.proofs.Answers.{asked, answered}
@@ -23,7 +23,7 @@ use Rattle.solver.proofs.cycle.candidate.Tie as tie
 
 -- t is what the division leaves
 module _ (v d : ℤ) (p : Within 10000000000000000 v × (Within 10000000000000000 d × (d ≢ pos 0))) where
-  limits : InLimits v d
+  limits : DivisionLimits v d
   limits = record {
     dividend = lin (v ∷ []) (p .0) (search facts depth 20) (omega arith);
     divisor = lin (d ∷ []) (p .1 .0) (search facts depth 20) (omega arith);

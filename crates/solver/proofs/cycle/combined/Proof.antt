@@ -7,24 +7,24 @@ use Rattle.ints.specs.Within.{Within}
 use Rattle.ints.proofs.{ℤ, _+ℤ_, _*ℤ_, [], _∷_, arith, lin, _&_, within-mul, signed}
 use Rattle.ints.proofs.Signed.{held}
 use Rattle.runs.specs.declared.Equation.{Equation}
-use Rattle.runs.specs.Workings.{InLimits}
-use Rattle.runs.proofs.Widths.{fits-a, fits-b}
-use Rattle.solver.proofs.Sizes.{fits}
+use Rattle.runs.specs.Workings.{CarryLimits}
+use Rattle.runs.proofs.CarryWidths.{fits-a, fits-b}
+use Rattle.solver.proofs.In64Bits.{fits-64}
 use Rattle.solver.proofs.cycle.combined.Statement.{statement}
 use Rattle.solver.proofs.cycle.combined.Tie as tie
 
-module _ (e : Equation) (x y : ℤ) (p : InLimits e × (Within 2000000000 x × Within 2000000000 y)) where
+module _ (e : Equation) (x y : ℤ) (p : CarryLimits e × (Within 2000000000 x × Within 2000000000 y)) where
   fits-x : SFits w64 x
-  fits-x = fits 2000000000 (omega arith) (p .1 .0)
+  fits-x = fits-64 2000000000 (omega arith) (p .1 .0)
 
   fits-y : SFits w64 y
-  fits-y = fits 2000000000 (omega arith) (p .1 .1)
+  fits-y = fits-64 2000000000 (omega arith) (p .1 .1)
 
   fits-ax : SFits w64 (e .a *ℤ x)
-  fits-ax = fits 2000000000000000 (omega arith) (within-mul (p .0 .left) (p .1 .0))
+  fits-ax = fits-64 2000000000000000 (omega arith) (within-mul (p .0 .left) (p .1 .0))
 
   fits-by : SFits w64 (e .b *ℤ y)
-  fits-by = fits 2000000000000000 (omega arith) (within-mul (p .0 .right) (p .1 .1))
+  fits-by = fits-64 2000000000000000 (omega arith) (within-mul (p .0 .right) (p .1 .1))
 
   fits-sum : SFits w64 (e .a *ℤ x +ℤ e .b *ℤ y)
   fits-sum =

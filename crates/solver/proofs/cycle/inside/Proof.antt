@@ -15,12 +15,12 @@ use Rattle.ints.proofs.Signed.{held, bits-zero}
 use Rattle.runs.specs.declared.Run.{Run}
 use Rattle.runs.specs.declared.Equation.{Equation}
 use Rattle.runs.specs.Run.{empty}
-use Rattle.runs.specs.Workings.{InLimits}
-use Rattle.runs.proofs.Turns.{FamilyRun}
-use Rattle.runs.proofs.Widths.{fits-c}
-use Rattle.families.specs.Model.{coefficient, value, candidate, cycle}
-use Rattle.families.proofs.Sizes.{first-within, step-within}
-use Rattle.solver.proofs.Sizes.{fits, held-first, held-step, crossable}
+use Rattle.runs.specs.Workings.{CarryLimits}
+use Rattle.families.specs.FamilyRun.{FamilyRun}
+use Rattle.runs.proofs.CarryWidths.{fits-c}
+use Rattle.families.specs.Model.{coefficient, residual, candidate, cycle}
+use Rattle.families.proofs.FamilySizes.{first-within, step-within}
+use Rattle.solver.proofs.In64Bits.{fits-64, held-first, held-step, crossable}
 use Rattle.solver.proofs.cycle.inside.Statement.{statement}
 use Rattle.solver.proofs.cycle.inside.Tie as tie
 
@@ -34,7 +34,7 @@ module _ {r : Run} (f : FamilyRun r) where
 
 -- d and u are the two combinations
 record Known (e : Equation) (P Q : Run) (d u : ℤ) : Type 0 where
-  lim : InLimits e
+  lim : CarryLimits e
   left : FamilyRun P
   right : FamilyRun Q
   d-is : d ≡ e .a *ℤ held (P .step) +ℤ e .b *ℤ held (Q .step)
@@ -43,7 +43,7 @@ record Known (e : Equation) (P Q : Run) (d u : ℤ) : Type 0 where
   u-fits : SFits w64 u
 
 -- the size of such a combination
-sum-within : (e : Equation) (x y z : ℤ) → InLimits e → Within 2000000000 x → Within 2000000000 y → z ≡ e .a *ℤ x +ℤ e .b *ℤ y → Within 4000000000000000 z
+sum-within : (e : Equation) (x y z : ℤ) → CarryLimits e → Within 2000000000 x → Within 2000000000 y → z ≡ e .a *ℤ x +ℤ e .b *ℤ y → Within 4000000000000000 z
 sum-within e x y z lim v w h =
     lin (e .a ∷ e .b ∷ x ∷ y ∷ z ∷ []) (within-mul (lim .left) v & within-mul (lim .right) w & h) (search facts depth 20) (omega arith)
 
@@ -64,20 +64,20 @@ module _ {e : Equation} {P Q : Run} {d u : ℤ} (k : Known e P Q d u) where
   v-within = lin (e .c ∷ u ∷ []) (k .lim .constant & u-within) (search facts depth 20) (omega arith)
 
   fits-v : SFits w64 (e .c -ℤ u)
-  fits-v = fits 10000000000000000 (omega arith) v-within
+  fits-v = fits-64 10000000000000000 (omega arith) v-within
 
   v-asked : SFits w64 (held (e .c) -ℤ held u)
   v-asked = rw (toZ-ofZ (fits-c (k .lim)), toZ-ofZ (k .u-fits)) fits-v
 
   -- as a local holds it
-  v-held : held (held (e .c) -ℤ held u) ≡ value e P Q
+  v-held : held (held (e .c) -ℤ held u) ≡ residual e P Q
   v-held = rw (toZ-ofZ (fits-c (k .lim)), toZ-ofZ (k .u-fits)) (toZ-ofZ fits-v ∙ ap (λ t. e .c -ℤ t) u-there)
 
   -- the tests, on the bits
   abbrev v : ℤ
   v = held (e .c) -ℤ held u
 
-  v-zero : eqb (ofZ w64 v) 0 ≡ isEqual (value e P Q) (pos 0)
+  v-zero : eqb (ofZ w64 v) 0 ≡ isEqual (residual e P Q) (pos 0)
   v-zero = bits-zero w64 v v-asked ∙ ap (λ t. isEqual t (pos 0)) (sym (toZ-ofZ v-asked) ∙ v-held)
 
   d-zero : eqb (ofZ w64 d) 0 ≡ isEqual (coefficient e P Q) (pos 0)
@@ -92,7 +92,7 @@ module _ {e : Equation} {P Q : Run} {d u : ℤ} (k : Known e P Q d u) where
 
     leaves : (r : Run) → r ≡ candidate (held v) (held d) (P .many) → some r ≡ cycle e P Q
     leaves r q =
-        let there : candidate (held v) (held d) (P .many) ≡ candidate (value e P Q) (coefficient e P Q) (P .many) =
+        let there : candidate (held v) (held d) (P .many) ≡ candidate (residual e P Q) (coefficient e P Q) (P .many) =
         ap₂ (λ v d. candidate v d (P .many)) v-held (toZ-ofZ (k .d-fits) ∙ d-there) in
         rw (sym d-zero ∙ ne-eqb (ofZ w64 d) 0 h) (ap some (q ∙ there))
 

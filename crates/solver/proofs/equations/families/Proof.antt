@@ -8,34 +8,36 @@ use borrow.Author.Needs.{needs}
 use lib.ListN.{length, getD}
 use Rattle.runs.specs.declared.Run.{Run}
 use Rattle.runs.specs.Run.{empty}
-use Rattle.runs.specs.Workings.{InLimits}
+use Rattle.runs.specs.Workings.{CarryLimits}
 use Rattle.jobs.specs.declared.Equation.{Equation}
 use Rattle.jobs.specs.Job.{jobOf, variableCount, equationCount, form}
-use Rattle.jobs.proofs.Lawful.{Lawful}
+use Rattle.jobs.specs.Lawful.{Lawful}
 use Rattle.families.specs.Model.{kept}
 use Rattle.solver.specs.declared.equations.Kept.{Kept}
 use Rattle.solver.specs.declared.equations.Kept.the-variants.{All, At as At-indices}
-use Rattle.solver.specs.Bounds.{Bounds, withBounds, BoundedBy, Begins}
+use Rattle.jobs.specs.declared.Bounds.{Bounds}
+use Rattle.jobs.specs.Bounds.{withBounds, BoundedBy}
+use Rattle.solver.specs.VariableArrays.{Begins}
 use Rattle.solver.specs.Steps.{keptBy}
-use Rattle.solver.proofs.Rows.{Sizes, n-most, row-asked, left-below, right-below}
-use Rattle.solver.proofs.Stepping.{Follows}
-use Rattle.solver.proofs.Following.{At, follows-start, follows-end, limits, left-family, right-family, labelled, left-label, right-label, keeps, follows-same, reducible, follows-reduced}
+use Rattle.solver.proofs.LawfulRows.{Sizes, n-most, row-asked, left-below, right-below}
+use Rattle.solver.proofs.CodeFollowsModel.{Follows, At, limits, left-family, right-family, labelled, left-label, right-label, keeps, follows-same, reducible, follows-reduced}
+use Rattle.solver.proofs.FollowsWithBounds.{follows-start, follows-end, at-row}
 use Rattle.solver.proofs.equations.families.Statement.{statement}
 use Rattle.solver.proofs.equations.families.Tie as tie
 
 -- for whichever bounds the runs began with
-record Known (s : List ℕ) (n : ℕ) (begun : List Run) (k : ℕ) (groups : List ℕ) (runs : List Run) : Type 0 where
-  follows : (b : List Bounds) → BoundedBy b n → Begins b n begun → Follows (withBounds (jobOf s) b) k groups runs
+record Known (s : List ℕ) (n : ℕ) (begun : List Run) (k : ℕ) (labels : List ℕ) (runs : List Run) : Type 0 where
+  follows : (b : List Bounds) → BoundedBy b n → Begins b n begun → Follows (withBounds (jobOf s) b) k labels runs
 
 -- the first three of what is asked
 sizes : {s : List ℕ} {n m : ℕ} {A : Type 0} → Lawful s × ((n ≡ variableCount s) × ((m ≡ equationCount s) × A)) → Sizes s n m
 sizes p = (p .0, (p .1 .0, p .1 .1 .0))
 
 abbrev Inv-loop : tie.InvT-loop
-Inv-loop job n m groups₀ runs₀ k₀ groups runs k = (k ≤ m) × ((length groups ≡ 256) × ((length runs ≡ 256) × Known job n runs₀ k groups runs))
+Inv-loop job n m labels₀ runs₀ k₀ labels runs k = (k ≤ m) × ((length labels ≡ 256) × ((length runs ≡ 256) × Known job n runs₀ k labels runs))
 
 abbrev μ-loop : tie.MeasureT-loop
-μ-loop job n m groups₀ runs₀ k₀ groups runs k = m - k
+μ-loop job n m labels₀ runs₀ k₀ labels runs k = m - k
 
 apart-requires : tie.Need-apart-requires Inv-loop μ-loop
 apart-requires c κs = search needs
@@ -72,8 +74,8 @@ module _ (c : tie.After-read Inv-loop μ-loop) where
   abbrev k : ℕ
   k = c .before .before .loop .k
 
-  abbrev groups : List ℕ
-  groups = c .before .before .loop .groups
+  abbrev labels : List ℕ
+  labels = c .before .before .loop .labels
 
   abbrev runs : List Run
   runs = c .before .before .loop .runs
@@ -87,19 +89,13 @@ module _ (c : tie.After-read Inv-loop μ-loop) where
   right-small : e .right < 256
   right-small = omega (arith, right-below (sizes (s .pre)) k k-below e (c .read .ensures), n-most (sizes (s .pre)))
 
-  -- for the bounds that came in
-  at : At (s .args .job .now) (s .args .n) (s .args .m) (s .args .bounds) k groups runs e
-  at = record {
-    sizes = sizes (s .pre);
-    bounded = s .pre .1 .1 .1;
-    below = k-below;
-    follows = c .before .before .loop .inv .1 .1 .1 .follows (s .args .bounds) (s .pre .1 .1 .1) (c .before .before .before .start .ensures);
-    row = c .read .ensures;
-  }
+  -- for any bounds with which the runs begin
+  at-any : (b : List Bounds) → BoundedBy b (s .args .n) → Begins b (s .args .n) (c .before .before .before .start .result) → At (withBounds (jobOf (s .args .job .now)) b) (s .args .n) k labels runs e
+  at-any b o h = at-row (sizes (s .pre)) b o k-below (c .before .before .loop .inv .1 .1 .1 .follows b o h) (c .read .ensures)
 
-  -- and for any others with which the runs begin
-  at-any : (b : List Bounds) → BoundedBy b (s .args .n) → Begins b (s .args .n) (c .before .before .before .start .result) → At (s .args .job .now) (s .args .n) (s .args .m) b k groups runs e
-  at-any b o h = record { sizes = sizes (s .pre); bounded = o; below = k-below; follows = c .before .before .loop .inv .1 .1 .1 .follows b o h; row = c .read .ensures }
+  -- and for those that came in
+  at : At (withBounds (jobOf (s .args .job .now)) (s .args .bounds)) (s .args .n) k labels runs e
+  at = at-any (s .args .bounds) (s .pre .1 .1 .1) (c .before .before .before .start .ensures)
 
 mul-l : tie.Need-mul-l Inv-loop μ-loop
 mul-l c = let h : c .read .result .left < 256 = left-small c in record { fits = omega (arith, h) }
@@ -131,7 +127,7 @@ form-requires c κs = search needs
 leaves-requires : tie.Need-leaves-requires Inv-loop μ-loop
 leaves-requires c κs =
     let a = at (c .before .before .before) in
-    (subst InLimits (sym (c .form .ensures)) (limits a), (left-family a, right-family a))
+    (subst CarryLimits (sym (c .form .ensures)) (limits a), (left-family a, right-family a))
 
 -- what the equation leaves
 module _ (c : tie.After-leaves Inv-loop μ-loop) where
@@ -141,7 +137,7 @@ module _ (c : tie.After-leaves Inv-loop μ-loop) where
   kept-is : (x : Kept) → c .leaves .result ≡ x → keptBy x ≡ keeps (at row)
   kept-is x h =
       ap keptBy (sym h) ∙ c .leaves .ensures
-      ∙ ap (λ f. kept f (getD (groups row) (e row .left) 0) (getD (groups row) (e row .right) 0) (getD (runs row) (e row .left) empty) (getD (runs row) (e row .right) empty)) (c .before .form .ensures)
+      ∙ ap (λ f. kept f (getD (labels row) (e row .left) 0) (getD (labels row) (e row .right) 0) (getD (runs row) (e row .left) empty) (getD (runs row) (e row .right) empty)) (c .before .form .ensures)
 
 enum-told : tie.Need-enum-told Inv-loop μ-loop
 enum-told c = search needs
@@ -154,10 +150,10 @@ keep-requires c κs =
     let v = c .before .before .before in
     let a = at (row v) in
     let i = c .before .kept .given .0 .0 in
-    (n-most (a .sizes), (left-label a, (labelled a, reducible a i (kept-is v (At-indices i) (c .before .kept .given .1)))))
+    (n-most (sizes (s (row v) .pre)), (left-label a, (labelled a, reducible a i (kept-is v (At-indices i) (c .before .kept .given .1)))))
 
 joined-requires : tie.Need-joined-requires Inv-loop μ-loop
-joined-requires c κs = let a = at (row (c .before .before .before .before)) in (n-most (a .sizes), (left-label a, (right-label a, labelled a)))
+joined-requires c κs = let v = row (c .before .before .before .before) in let a = at v in (n-most (sizes (s v .pre)), (left-label a, (right-label a, labelled a)))
 
 add-k : tie.Need-add-k Inv-loop μ-loop
 add-k c = omega arith
@@ -165,13 +161,13 @@ add-k c = omega arith
 loop-less : tie.Need-loop-less Inv-loop μ-loop
 loop-less c = omega arith
 
--- groups and runs are what was made of them
-onward : (c : tie.After-read Inv-loop μ-loop) {groups groups′ : List ℕ} {runs runs′ : List Run} → groups ≡ groups′ → runs ≡ runs′ → length groups′ ≡ 256 → length runs′ ≡ 256 →
-    ((b : List Bounds) → BoundedBy b (s c .args .n) → Begins b (s c .args .n) (c .before .before .before .start .result) → Follows (withBounds (jobOf (s c .args .job .now)) b) (suc (k c)) groups′ runs′) →
-    (length groups ≡ 256) × ((length runs ≡ 256) × Known (s c .args .job .now) (s c .args .n) (c .before .before .before .start .result) (k c + 1) groups runs)
-onward c {groups} {groups′} {runs} {runs′} p q g r f =
+-- components and runs are what was made of them
+onward : (c : tie.After-read Inv-loop μ-loop) {labels labels′ : List ℕ} {runs runs′ : List Run} → labels ≡ labels′ → runs ≡ runs′ → length labels′ ≡ 256 → length runs′ ≡ 256 →
+    ((b : List Bounds) → BoundedBy b (s c .args .n) → Begins b (s c .args .n) (c .before .before .before .start .result) → Follows (withBounds (jobOf (s c .args .job .now)) b) (suc (k c)) labels′ runs′) →
+    (length labels ≡ 256) × ((length runs ≡ 256) × Known (s c .args .job .now) (s c .args .n) (c .before .before .before .start .result) (k c + 1) labels runs)
+onward c {labels} {labels′} {runs} {runs′} p q g r f =
     let next : suc (k c) ≡ k c + 1 = omega arith in
-    rw (p, q) (g, (r, record { follows = λ b o h. subst (λ k. Follows (withBounds (jobOf (s c .args .job .now)) b) k groups′ runs′) next (f b o h) }))
+    rw (p, q) (g, (r, record { follows = λ b o h. subst (λ k. Follows (withBounds (jobOf (s c .args .job .now)) b) k labels′ runs′) next (f b o h) }))
 
 loop-again : tie.Need-loop-again Inv-loop μ-loop
 loop-again c =
@@ -192,8 +188,8 @@ returns c =
     let l = c .before .loop in
     let z = sizes (s .pre) in
     let e : l .k ≡ s .args .m = omega arith in
-    follows-end z (s .args .bounds) (s .pre .1 .1 .1) (l .groups) (l .runs)
-    (subst (λ k. Follows (withBounds (jobOf (s .args .job .now)) (s .args .bounds)) k (l .groups) (l .runs)) e
+    follows-end z (s .args .bounds) (s .pre .1 .1 .1) (l .labels) (l .runs)
+    (subst (λ k. Follows (withBounds (jobOf (s .args .job .now)) (s .args .bounds)) k (l .labels) (l .runs)) e
     (l .inv .1 .1 .1 .follows (s .args .bounds) (s .pre .1 .1 .1) (c .before .before .start .ensures)))
 
 pub families-spec : {M : Type 1} → statement M

@@ -9,28 +9,28 @@ use lib.ListN.{getD}
 use Rattle.runs.specs.declared.Run.{Run}
 use Rattle.runs.specs.Run.{empty}
 use Rattle.families.specs.Model.{runAfter}
-use Rattle.solver.specs.Groups.{Labelled}
+use Rattle.solver.specs.Labels.{Labelled}
 use Rattle.solver.specs.declared.join.Indices.{Indices}
 use Rattle.solver.specs.Steps.{indicesBy}
-use Rattle.solver.proofs.Passes.{Passed, begin, write}
+use Rattle.lists.proofs.ArrayPass.{Passed, begin, write}
 use Rattle.solver.proofs.equations.keep.Statement.{statement}
 use Rattle.solver.proofs.equations.keep.Tie as tie
 
 -- the run of variable k
 abbrev after : List Run → List ℕ → ℕ → ℕ → Indices → ℕ → Run
-after runs groups l r i k = runAfter l r (indicesBy i) (getD groups k 0) (getD runs k empty)
+after runs labels l r i k = runAfter l r (indicesBy i) (getD labels k 0) (getD runs k empty)
 
--- no variable before both groups is in one of them
-before-both : (runs : List Run) (groups : List ℕ) (l r : ℕ) (i : Indices) (n : ℕ) → l < n → Labelled groups n → (low : ℕ) → low ≡ min l r → (k : ℕ) → k < low →
-    getD runs k empty ≡ after runs groups l r i k
-before-both runs groups l r i n b f low e k h =
-    rw (ne-eqb (getD groups k 0) l (λ z. omega (arith, f .at k (omega (arith, e)), z, e, h)), ne-eqb (getD groups k 0) r (λ z. omega (arith, f .at k (omega (arith, e)), z, e, h))) refl
+-- no variable before both components is in one of them
+before-both : (runs : List Run) (labels : List ℕ) (l r : ℕ) (i : Indices) (n : ℕ) → l < n → Labelled labels n → (low : ℕ) → low ≡ min l r → (k : ℕ) → k < low →
+    getD runs k empty ≡ after runs labels l r i k
+before-both runs labels l r i n b f low e k h =
+    rw (ne-eqb (getD labels k 0) l (λ z. omega (arith, f .at k (omega (arith, e)), z, e, h)), ne-eqb (getD labels k 0) r (λ z. omega (arith, f .at k (omega (arith, e)), z, e, h))) refl
 
 abbrev Inv-loop : tie.InvT-loop
-Inv-loop l r kept n runs groups out₀ i₀ out i = (i ≤ n) × Passed empty (after runs groups l r kept) runs i out
+Inv-loop l r kept n runs labels out₀ i₀ out i = (i ≤ n) × Passed empty (after runs labels l r kept) runs i out
 
 abbrev μ-loop : tie.MeasureT-loop
-μ-loop l r kept n runs groups out₀ i₀ out i = n - i
+μ-loop l r kept n runs labels out₀ i₀ out i = n - i
 
 lower-requires : tie.Need-lower-requires Inv-loop μ-loop
 lower-requires c κs = search needs

@@ -8,28 +8,28 @@ use lib.Dec.{eqb, ltb}
 use Rattle.runs.specs.declared.Run.{Run}
 use Rattle.runs.specs.declared.Equation.{Equation}
 use Rattle.runs.specs.Search.{meet, carry}
-use Rattle.runs.specs.Workings.{InLimits}
-use Rattle.runs.proofs.Turns.{FamilyRun, upward}
-use Rattle.families.specs.Model.{Indices, both, cycle, join, kept}
-use Rattle.families.proofs.Crossings.{common-is}
+use Rattle.runs.specs.Workings.{CarryLimits}
+use Rattle.families.specs.FamilyRun.{FamilyRun, upward}
+use Rattle.families.specs.Model.{Indices, bothSides, cycle, join, kept}
+use Rattle.families.proofs.JoinStep.{common-is}
 use Rattle.solver.specs.declared.cycle.Remains.{Remains}
 use Rattle.solver.specs.declared.cycle.Remains.the-variants.{All, At}
 use Rattle.solver.specs.Steps.{remainsBy, indicesBy}
-use Rattle.solver.proofs.Joining.{apart-told, together-told}
+use Rattle.solver.proofs.JoinTest.{apart-told, together-told}
 use Rattle.solver.proofs.equations.leaves.Statement.{statement}
 use Rattle.solver.proofs.equations.leaves.Tie as tie
 
 module _ (e : Equation) (l r : ℕ) (P Q : Run) where
-  -- between two groups
-  apart : InLimits e → FamilyRun P → FamilyRun Q → not (eqb l r) ≡ true → (i : Indices) →
+  -- between two components
+  apart : CarryLimits e → FamilyRun P → FamilyRun Q → not (eqb l r) ≡ true → (i : Indices) →
       i ≡ join e P Q (meet (upward P) (carry (e .a) (e .b) (e .c) (upward Q))) (ltb l r) → some i ≡ kept e l r P Q
   unfolding kept
   apart lim f g t i h = rw (apart-told (eqb l r) t, common-is lim f g) (ap some h)
 
   -- inside one
-  together : not (eqb l r) ≡ false → (o : Option Run) → o ≡ cycle e P Q → both o ≡ kept e l r P Q
+  together : not (eqb l r) ≡ false → (o : Option Run) → o ≡ cycle e P Q → bothSides o ≡ kept e l r P Q
   unfolding kept
-  together t o h = rw (together-told (eqb l r) t) (ap both h)
+  together t o h = rw (together-told (eqb l r) t) (ap bothSides h)
 
 joins-requires : tie.Need-joins-requires
 joins-requires c κs = search needs
@@ -57,7 +57,7 @@ module _ (c : tie.After-inside) where
   abbrev s : tie.Start
   s = c .before .before .before
 
-  inside-is : (x : Remains) → c .inside .result ≡ x → both (remainsBy x) ≡ kept (s .args .e) (s .args .l) (s .args .r) (s .args .p) (s .args .q)
+  inside-is : (x : Remains) → c .inside .result ≡ x → bothSides (remainsBy x) ≡ kept (s .args .e) (s .args .l) (s .args .r) (s .args .p) (s .args .q)
   inside-is x e =
       together (s .args .e) (s .args .l) (s .args .r) (s .args .p) (s .args .q)
       (sym (c .before .before .joins .ensures) ∙ c .before .if1 .left) (remainsBy x) (ap remainsBy (sym e) ∙ c .inside .ensures)

@@ -1,8 +1,8 @@
 -- `part` meets its contract.
 use mathlib.Core.Path.{sym, _∙_, subst}
-use Rattle.runs.proofs.Turns.{FamilyRun}
+use Rattle.families.specs.FamilyRun.{FamilyRun}
 use Rattle.families.specs.Model.{through}
-use Rattle.families.proofs.Parts.{after-left, after-right, after-other}
+use Rattle.families.proofs.Subfamily.{after-left, after-right, after-other}
 use Rattle.solver.specs.Steps.{indicesBy}
 use Rattle.solver.proofs.equations.part.Statement.{statement}
 use Rattle.solver.proofs.equations.part.Tie as tie

@@ -9,15 +9,15 @@ use Rattle.ints.proofs.{ℤ, pos, negℤ, _-ℤ_, _*ℤ_, [], _∷_, arith, lin
 use Rattle.ints.proofs.Signed.{held}
 use Rattle.runs.specs.declared.Run.{Run}
 use Rattle.runs.specs.declared.Equation.{Equation}
-use Rattle.runs.specs.Workings.{InLimits}
-use Rattle.runs.proofs.Indices.{across}
-use Rattle.runs.proofs.Widths.{fits-a, fits-b}
+use Rattle.runs.specs.Workings.{CarryLimits}
+use Rattle.families.specs.FamilyRun.{across}
+use Rattle.runs.proofs.CarryWidths.{fits-a, fits-b}
 use Rattle.solver.specs.Widths.{Crossable}
-use Rattle.solver.proofs.Sizes.{held-first, held-step}
+use Rattle.solver.proofs.In64Bits.{held-first, held-step}
 use Rattle.solver.proofs.join.across.Statement.{statement}
 use Rattle.solver.proofs.join.across.Tie as tie
 
-module _ (e : Equation) (r : Run) (lim : InLimits e) (w : Crossable r) where
+module _ (e : Equation) (r : Run) (lim : CarryLimits e) (w : Crossable r) where
   first-asked : Within 2000000000 (held (r .first))
   first-asked = rw (held-first w) (lin (r .first ∷ []) (w .first) (search facts depth 20) (omega arith))
 
@@ -25,7 +25,7 @@ module _ (e : Equation) (r : Run) (lim : InLimits e) (w : Crossable r) where
   abbrev steps : Equation
   steps = record { a = held (e .a); b = held (e .b); c = pos 0 }
 
-  step-asked : InLimits steps × Within 2000000000 (held (r .step))
+  step-asked : CarryLimits steps × Within 2000000000 (held (r .step))
   step-asked = rw (toZ-ofZ (fits-a lim), toZ-ofZ (fits-b lim), held-step w) (
     record {
       left = lim .left;

@@ -10,20 +10,20 @@ use Rattle.runs.specs.declared.Run.{Run}
 use Rattle.runs.specs.declared.Equation.{Equation}
 use Rattle.runs.specs.Run.{OneForm, empty}
 use Rattle.runs.specs.Search.{meet, carry}
-use Rattle.runs.specs.Workings.{InLimits}
-use Rattle.runs.proofs.Laws.{carry-form}
-use Rattle.runs.proofs.Turns.{FamilyRun, upward, upward-form}
-use Rattle.runs.proofs.Indices.{across}
+use Rattle.runs.specs.Workings.{CarryLimits}
+use Rattle.runs.proofs.MeetAndCarry.{carry-form}
+use Rattle.families.specs.FamilyRun.{FamilyRun, upward, across}
+use Rattle.families.proofs.FamilyRuns.{upward-form}
 use Rattle.families.specs.Model.{Indices as Pair, indicesIn, directed, join}
 use Rattle.solver.specs.Widths.{Turnable, Crossable}
-use Rattle.solver.proofs.Sizes.{crossable}
-use Rattle.solver.proofs.Meeting.{joined-crossable, partners-crossable, left-turnable, right-turnable}
+use Rattle.solver.proofs.In64Bits.{crossable}
+use Rattle.solver.proofs.JoinWidths.{joined-crossable, partners-crossable, left-turnable, right-turnable}
 use Rattle.solver.proofs.join.between.Statement.{statement}
 use Rattle.solver.proofs.join.between.Tie as tie
 
 -- what is known once the numbers that are joined, R, have been worked out
 record Known (e : Equation) (P Q R : Run) : Type 0 where
-  lim : InLimits e
+  lim : CarryLimits e
   left : FamilyRun P
   right : FamilyRun Q
   is : R ≡ meet (upward P) (carry (e .a) (e .b) (e .c) (upward Q))
@@ -67,7 +67,7 @@ upward-requires-2 c κs = search needs
 carry-requires : tie.Need-carry-requires
 carry-requires c κs = let s = c .before .before in (subst OneForm (sym (c .upward2 .ensures)) (upward-form (s .pre .1 .1)), s .pre .0)
 
-carried-form : (e : Equation) (Q q r : Run) → InLimits e → FamilyRun Q → q ≡ upward Q → r ≡ carry (e .a) (e .b) (e .c) q → OneForm r
+carried-form : (e : Equation) (Q q r : Run) → CarryLimits e → FamilyRun Q → q ≡ upward Q → r ≡ carry (e .a) (e .b) (e .c) q → OneForm r
 carried-form e Q q r lim f d h = subst OneForm (sym (h ∙ ap (carry (e .a) (e .b) (e .c)) d)) (carry-form lim (upward-form f))
 
 meet-requires : tie.Need-meet-requires

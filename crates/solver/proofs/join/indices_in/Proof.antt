@@ -7,10 +7,10 @@ use Rattle.ints.specs.Within.{Within}
 use Rattle.ints.proofs.{ℤ, _-ℤ_, [], _∷_, arith, lin, _&_, facts}
 use Rattle.ints.proofs.Signed.{held}
 use Rattle.runs.specs.declared.Run.{Run}
-use Rattle.runs.proofs.Indices.{ratio}
+use Rattle.families.specs.FamilyRun.{ratio}
 use Rattle.families.specs.Model.{indicesIn}
 use Rattle.solver.specs.Widths.{Crossable}
-use Rattle.solver.proofs.Sizes.{fits, held-first, held-step}
+use Rattle.solver.proofs.In64Bits.{fits-64, held-first, held-step}
 use Rattle.solver.proofs.join.indices_in.Statement.{statement}
 use Rattle.solver.proofs.join.indices_in.Tie as tie
 
@@ -22,7 +22,7 @@ module _ (r R : Run) (w : Crossable r × Crossable R) where
   way-within = lin (r .first ∷ R .first ∷ []) (w .0 .first & w .1 .first) (search facts depth 20) (omega arith)
 
   fits-way : SFits w64 (R .first -ℤ r .first)
-  fits-way = fits 2000000000 (omega arith) way-within
+  fits-way = fits-64 2000000000 (omega arith) way-within
 
   way : SFits w64 (held (R .first) -ℤ held (r .first))
   way = rw (held-first (w .1), held-first (w .0)) fits-way

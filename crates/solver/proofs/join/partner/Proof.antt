@@ -5,18 +5,18 @@ use mir.Val.{SFits}
 use mir.Facts.{toZ-ofZ}
 use Rattle.ints.specs.Within.{Within}
 use Rattle.ints.specs.Floor.{floorDiv}
-use Rattle.ints.specs.Division as division
+use Rattle.ints.specs.Division.{DivisionLimits}
 use Rattle.ints.proofs.{ℤ, _-ℤ_, _*ℤ_, [], _∷_, arith, lin, _&_, facts, within-mul}
 use Rattle.ints.proofs.Signed.{held}
 use Rattle.ints.proofs.Answers.{asked, answered}
 use Rattle.runs.specs.declared.Equation.{Equation}
-use Rattle.runs.specs.Workings.{InLimits}
-use Rattle.runs.proofs.Widths.{fits-a, fits-c}
-use Rattle.solver.proofs.Sizes.{fits}
+use Rattle.runs.specs.Workings.{CarryLimits}
+use Rattle.runs.proofs.CarryWidths.{fits-a, fits-c}
+use Rattle.solver.proofs.In64Bits.{fits-64}
 use Rattle.solver.proofs.join.partner.Statement.{statement}
 use Rattle.solver.proofs.join.partner.Tie as tie
 
-module _ (e : Equation) (p : ℤ) (pre : InLimits e × Within 2000000000 p) where
+module _ (e : Equation) (p : ℤ) (pre : CarryLimits e × Within 2000000000 p) where
   abbrev rest : ℤ
   rest = e .c -ℤ e .a *ℤ p
 
@@ -24,12 +24,12 @@ module _ (e : Equation) (p : ℤ) (pre : InLimits e × Within 2000000000 p) wher
   rest-within = lin (e .a ∷ e .c ∷ p ∷ []) (pre .0 .constant & within-mul (pre .0 .left) (pre .1)) (search facts depth 20) (omega arith)
 
   fits-p : SFits w64 p
-  fits-p = fits 2000000000 (omega arith) (pre .1)
+  fits-p = fits-64 2000000000 (omega arith) (pre .1)
 
   fits-ap : SFits w64 (e .a *ℤ p)
-  fits-ap = fits 2000000000000000 (omega arith) (within-mul (pre .0 .left) (pre .1))
+  fits-ap = fits-64 2000000000000000 (omega arith) (within-mul (pre .0 .left) (pre .1))
 
-  limits : division.InLimits rest (e .b)
+  limits : DivisionLimits rest (e .b)
   limits = record {
     dividend = lin (e .a ∷ e .c ∷ p ∷ []) rest-within (search facts depth 20) (omega arith);
     divisor = lin (e .b ∷ []) (pre .0 .right) (search facts depth 20) (omega arith);
@@ -47,9 +47,9 @@ module _ (e : Equation) (p : ℤ) (pre : InLimits e × Within 2000000000 p) wher
   rest-is = rw (toZ-ofZ (fits-a (pre .0)), toZ-ofZ (fits-c (pre .0)), toZ-ofZ fits-p, toZ-ofZ fits-ap) refl
 
   rest-fits : SFits w64 rest-held
-  rest-fits = rw rest-is (fits 4000000000000000 (omega arith) rest-within)
+  rest-fits = rw rest-is (fits-64 4000000000000000 (omega arith) rest-within)
 
-  rest-asked : division.InLimits (held rest-held) (held (e .b))
+  rest-asked : DivisionLimits (held rest-held) (held (e .b))
   rest-asked = rw rest-is (asked limits)
 
   result : (q : ℤ) → SFits w64 q → q ≡ floorDiv (held rest-held) (held (e .b)) → held q ≡ floorDiv (e .c -ℤ e .a *ℤ p) (e .b)

@@ -9,12 +9,12 @@ use mir.Facts.{toZ-ofZ}
 use Rattle.ints.specs.Within.{Within}
 use Rattle.ints.specs.Equal.{isEqual}
 use Rattle.ints.specs.Floor.{floorDiv}
-use Rattle.ints.specs.Division.{InLimits}
+use Rattle.ints.specs.Division.{DivisionLimits}
 use Rattle.ints.proofs.{ℤ, pos}
 use Rattle.ints.proofs.Equal.{equal-true}
 use Rattle.ints.proofs.Signed.{held, bits-zero}
 use Rattle.ints.proofs.Answers.{asked, answered}
-use Rattle.runs.proofs.Indices.{ratio}
+use Rattle.families.specs.FamilyRun.{ratio}
 use Rattle.solver.proofs.join.ratio.Statement.{statement}
 use Rattle.solver.proofs.join.ratio.Tie as tie
 
@@ -26,7 +26,7 @@ module _ (n d : ℤ) (f : SFits w64 d) where
     moves : isEqual d (pos 0) ≡ false
     moves = sym (bits-zero w64 d f) ∙ ne-eqb (ofZ w64 d) 0 h
 
-    limits : Within 4000000000000000000 n → Within 4000000000000000000 d → InLimits n d
+    limits : Within 4000000000000000000 n → Within 4000000000000000000 d → DivisionLimits n d
     limits a b = record { dividend = a; divisor = b; not-zero = λ z. false≢true (sym moves ∙ equal-true d (pos 0) .1 z) }
 
     divided : (q : ℤ) → SFits w64 q → q ≡ floorDiv n d → held q ≡ ratio n d

@@ -11,10 +11,10 @@ use Rattle.ints.proofs.{_+ℤ_, _*ℤ_, [], _∷_, arith, lin, _&_, signed}
 use Rattle.ints.proofs.Signed.{held}
 use Rattle.runs.specs.declared.Run.{Run}
 use Rattle.runs.specs.Run.{empty}
-use Rattle.runs.proofs.Turns.{FamilyRun}
+use Rattle.families.specs.FamilyRun.{FamilyRun}
 use Rattle.families.specs.Model.{through}
-use Rattle.families.proofs.Sizes.{first-within, step-within}
-use Rattle.solver.proofs.Sizes.{fits}
+use Rattle.families.proofs.FamilySizes.{first-within, step-within}
+use Rattle.solver.proofs.In64Bits.{fits-64}
 use Rattle.solver.proofs.parts.through.Statement.{statement}
 use Rattle.solver.proofs.parts.through.Tie as tie
 use Rattle.solver.proofs.parts.through.Reads as reads
@@ -24,7 +24,7 @@ use Rattle.runs.proofs.Run.empty.Reads as empty-reads
 abbrev made : Run → Run → Run
 made r s = record { first = r .first +ℤ r .step *ℤ s .first; step = r .step *ℤ s .step; many = s .many }
 
--- with an index at all, each number on the way fits
+-- with an index at all, each number on the way fits-64
 record Known (r s : Run) : Type 0 where
   before : FamilyRun r
   after : FamilyRun (through r s)
@@ -37,10 +37,10 @@ module _ {r s : Run} (k : Known r s) where
   family = rw (k .some) at (k .after)
 
   fits-f : SFits w64 (r .first)
-  fits-f = fits 1000000000 (omega arith) (first-within (k .before))
+  fits-f = fits-64 1000000000 (omega arith) (first-within (k .before))
 
   fits-s : SFits w64 (r .step)
-  fits-s = fits 2000000000 (omega arith) (step-within (k .before))
+  fits-s = fits-64 2000000000 (omega arith) (step-within (k .before))
 
   fits-way : SFits w64 (r .step *ℤ s .first)
   fits-way = lin (r .first ∷ r .step ∷ s .first ∷ []) (first-within (k .before) & first-within family) (search signed depth 20) (omega arith)
@@ -49,13 +49,13 @@ module _ {r s : Run} (k : Known r s) where
   way = rw (toZ-ofZ fits-s, toZ-ofZ (k .fits-i)) fits-way
 
   fits-sum : SFits w64 (r .first +ℤ r .step *ℤ s .first)
-  fits-sum = fits 1000000000 (omega arith) (first-within family)
+  fits-sum = fits-64 1000000000 (omega arith) (first-within family)
 
   sum : SFits w64 (held (r .first) +ℤ held (held (r .step) *ℤ held (s .first)))
   sum = rw (toZ-ofZ fits-f, toZ-ofZ fits-s, toZ-ofZ (k .fits-i), toZ-ofZ fits-way) fits-sum
 
   fits-next : SFits w64 (r .step *ℤ s .step)
-  fits-next = fits 2000000000 (omega arith) (step-within family)
+  fits-next = fits-64 2000000000 (omega arith) (step-within family)
 
   next : SFits w64 (held (r .step) *ℤ held (s .step))
   next = rw (toZ-ofZ fits-s, toZ-ofZ (k .fits-t)) fits-next

@@ -8,9 +8,9 @@ use mir.Facts.{toZ-ofZ}
 use Rattle.ints.proofs.{ℤ, pos, negℤ, _+ℤ_, _-ℤ_, _*ℤ_, [], _∷_, arith, lin, lin₀, _&_, facts, signed}
 use Rattle.ints.proofs.Signed.{held, cast}
 use Rattle.runs.specs.declared.Run.{Run}
-use Rattle.runs.proofs.Turns.{turned}
+use Rattle.families.specs.FamilyRun.{turned}
 use Rattle.solver.specs.Widths.{Turnable}
-use Rattle.solver.proofs.Sizes.{fits}
+use Rattle.solver.proofs.In64Bits.{fits-64}
 use Rattle.solver.proofs.parts.turned.Statement.{statement}
 use Rattle.solver.proofs.parts.turned.Tie as tie
 
@@ -19,10 +19,10 @@ module _ (r : Run) (t : Turnable r) (small : r .many < 4294967296) where
   m = pos (r .many) -ℤ pos 1
 
   fits-first : SFits w64 (r .first)
-  fits-first = fits 4294967296 (omega arith) (t .first)
+  fits-first = fits-64 4294967296 (omega arith) (t .first)
 
   fits-step : SFits w64 (r .step)
-  fits-step = fits 4294967296 (omega arith) (t .step)
+  fits-step = fits-64 4294967296 (omega arith) (t .step)
 
   many-is : toZ w64 (r .many) ≡ pos (r .many)
   many-is = cast (r .many) (omega (arith, small))
@@ -31,7 +31,7 @@ module _ (r : Run) (t : Turnable r) (small : r .many < 4294967296) where
   fits-m = lin (pos (r .many) ∷ []) small (search signed depth 20) (omega arith)
 
   fits-last : SFits w64 (r .first +ℤ r .step *ℤ m)
-  fits-last = fits 4294967296 (omega arith) (t .last)
+  fits-last = fits-64 4294967296 (omega arith) (t .last)
 
   fits-way : SFits w64 (r .step *ℤ m)
   fits-way = lin (r .first ∷ r .step ∷ pos (r .many) ∷ []) (t .first & t .last) (search signed depth 20) (omega arith)

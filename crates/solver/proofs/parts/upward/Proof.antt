@@ -6,15 +6,15 @@ use native.Mathlib.Omega.{arith}
 use Rattle.ints.proofs.{pos, ltZ}
 use Rattle.ints.proofs.Signed.{held}
 use Rattle.runs.specs.declared.Run.{Run}
-use Rattle.runs.proofs.Turns.{FamilyRun, turned, upward}
-use Rattle.families.proofs.Sizes.{step-within}
-use Rattle.solver.proofs.Sizes.{fits, turnable}
+use Rattle.families.specs.FamilyRun.{FamilyRun, turned, upward}
+use Rattle.families.proofs.FamilySizes.{step-within}
+use Rattle.solver.proofs.In64Bits.{fits-64, turnable}
 use Rattle.solver.proofs.parts.upward.Statement.{statement}
 use Rattle.solver.proofs.parts.upward.Tie as tie
 
 module _ (r : Run) (f : FamilyRun r) where
   test-is : {t : Bool} → ltZ (held (r .step)) (pos 0) ≡ t → ltZ (r .step) (pos 0) ≡ t
-  test-is h = ap (λ x. ltZ x (pos 0)) (sym (toZ-ofZ (fits 2000000000 (omega arith) (step-within f)))) ∙ h
+  test-is h = ap (λ x. ltZ x (pos 0)) (sym (toZ-ofZ (fits-64 2000000000 (omega arith) (step-within f)))) ∙ h
 
   falls : (q : Run) → q ≡ turned r → ltZ (held (r .step)) (pos 0) ≡ true → q ≡ upward r
   falls q e t = rw (test-is t) e

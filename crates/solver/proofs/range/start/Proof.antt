@@ -7,12 +7,13 @@ use borrow.Author.Needs.{needs}
 use lib.ListN.{getD}
 use Rattle.runs.specs.declared.Run.{Run}
 use Rattle.runs.specs.Run.{OneForm, empty, full}
-use Rattle.runs.proofs.Clips.{full-form}
+use Rattle.runs.proofs.ClassInInterval.{full-form}
 use Rattle.runs.specs.Search.{meet}
 use Rattle.families.specs.Model.{interval}
-use Rattle.families.proofs.Begins.{interval-form}
-use Rattle.solver.specs.Bounds.{Bounds, noBounds}
-use Rattle.solver.proofs.Passes.{Filled, unfilled, filled}
+use Rattle.families.proofs.StartState.{interval-form}
+use Rattle.jobs.specs.declared.Bounds.{Bounds}
+use Rattle.jobs.specs.Bounds.{noBounds}
+use Rattle.lists.proofs.ArrayPass.{Filled, unfilled, filled}
 use Rattle.solver.proofs.range.start.Statement.{statement}
 use Rattle.solver.proofs.range.start.Tie as tie
 

@@ -1,54 +1,11 @@
 -- `try_runs::search::has_partner` meets its contract.
 use Prim.Native.Nat.{_-_, _≤_}
-use native.Mathlib.Omega.{arith}
 use borrow.Author.Needs.{needs}
-use Rattle.try_runs.proofs.Bits.{kept}
 use Rattle.try_runs.proofs.search.has_partner.Statement.{statement}
 use Rattle.try_runs.proofs.search.has_partner.Tie as tie
-
-abbrev Inv-loop : tie.InvT-loop
-Inv-loop e r p k₀ k = k ≤ 13
-
-abbrev μ-loop : tie.MeasureT-loop
-μ-loop e r p k₀ k = 13 - k
-
-loop-holds : tie.Need-loop-holds Inv-loop μ-loop
-loop-holds c = omega arith
-
-nth-requires : tie.Need-nth-requires Inv-loop μ-loop
-nth-requires c κs = search needs
-
-holds-requires : tie.Need-holds-requires Inv-loop μ-loop
-holds-requires c κs =
-    let s = c .before .before .before .before in
-    (s .pre .0, (kept (omega arith) (s .pre .1 .1), kept (omega arith) (c .nth .ensures)))
-
-returns : tie.Need-returns Inv-loop μ-loop
-returns c = search needs
-
-add-k : tie.Need-add-k Inv-loop μ-loop
-add-k c = omega arith
-
-loop-less : tie.Need-loop-less Inv-loop μ-loop
-loop-less c = omega arith
-
-loop-again : tie.Need-loop-again Inv-loop μ-loop
-loop-again c = omega arith
-
-returns-2 : tie.Need-returns-2 Inv-loop μ-loop
-returns-2 c = search needs
 
 pub has-partner-spec : {M : Type 1} → statement M
 has-partner-spec =
     tie.close
-    (tie.spec
-    Inv-loop
-    μ-loop
-    loop-holds
-    nth-requires
-    holds-requires
-    returns
-    add-k
-    loop-less
-    loop-again
-    returns-2)
+    (tie.spec (λ t r x q₀ k₀ q k. k ≤ r .many) (λ t r x q₀ k₀ q k. r .many - k) (search needs) (search needs)
+    (search needs) (search needs) (search needs) (search needs) (search needs) (search needs))

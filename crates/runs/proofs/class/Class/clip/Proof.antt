@@ -9,14 +9,14 @@ use mir.Syntax.{w32, w64}
 use mir.Val.{Fits, SFits}
 use mir.Facts.{toZ-ofZ}
 use Rattle.ints.specs.Floor.{floorDiv, floorMod}
-use Rattle.ints.specs.Division.{InLimits}
+use Rattle.ints.specs.Division.{DivisionLimits}
 use Rattle.ints.proofs.{ℤ, pos, natAbs, _+ℤ_, _-ℤ_, _*ℤ_, _≤ℤ_, _<ℤ_, ltZ, List, [], _∷_, arith, lin, _&_, facts, prod, signed}
 use Rattle.ints.proofs.Signed.{held}
 use Rattle.ints.proofs.Order.{abs-nonneg}
 use Rattle.ints.proofs.Floor.{mod-range, floor-range}
 use Rattle.runs.specs.Run.{Run, empty}
-use Rattle.runs.specs.Method.{Class, Interval, Clippable, lowest, steps, progression, clip}
-use Rattle.runs.proofs.Clips.{steps-nonneg}
+use Rattle.runs.specs.Method.{Class, Interval, Clippable, lowestIn, steps, progression, clip}
+use Rattle.runs.proofs.ClassInInterval.{steps-nonneg}
 use Rattle.ints.proofs.Answers.{asked, answered, fits-limit}
 use Rattle.runs.proofs.class.Class.clip.Statement.{statement}
 use Rattle.runs.proofs.class.Class.clip.Tie as tie
@@ -42,13 +42,13 @@ module _ (c : Class) (i : Interval) (fair : Clippable c i) where
   fits-low : SFits w64 (i .low)
   fits-low = fits-limit (fair .start)
 
-  limits-apart : InLimits apart (c .step)
+  limits-apart : DivisionLimits apart (c .step)
   limits-apart = record { dividend = fair .distance; divisor = fair .step; not-zero = lin (c .step ∷ []) (fair .moves) (search facts depth 20) (omega arith) }
 
   apart-asked : SFits w64 (held (c .first) -ℤ held (i .low))
   apart-asked = rw (toZ-ofZ fits-first, toZ-ofZ fits-low) (fits-limit (fair .distance))
 
-  limits-asked : InLimits (held (held (c .first) -ℤ held (i .low))) (held (c .step))
+  limits-asked : DivisionLimits (held (held (c .first) -ℤ held (i .low))) (held (c .step))
   limits-asked = rw (toZ-ofZ fits-first, toZ-ofZ fits-low) (asked limits-apart)
 
   -- m is what the remainder gave
@@ -73,11 +73,11 @@ module _ (c : Class) (i : Interval) (fair : Clippable c i) where
     lowest-asked : SFits w64 (held (i .low) +ℤ held m)
     lowest-asked = rw (toZ-ofZ fits-low, toZ-ofZ fits-m) fits-lowest
 
-    L-is : L ≡ lowest c i
+    L-is : L ≡ lowestIn c i
     L-is = toZ-ofZ lowest-asked ∙ ap₂ _+ℤ_ (toZ-ofZ fits-low) (toZ-ofZ fits-m ∙ m-is)
 
     module _ (fits-high : SFits w64 (i .high)) where
-      test-is : {b : Bool} → ltZ (held (i .high)) L ≡ b → ltZ (i .high) (lowest c i) ≡ b
+      test-is : {b : Bool} → ltZ (held (i .high)) L ≡ b → ltZ (i .high) (lowestIn c i) ≡ b
       test-is t = ap₂ ltZ (sym (toZ-ofZ fits-high)) (sym L-is) ∙ t
 
       none : (r : Run) → r ≡ empty → ltZ (held (i .high)) L ≡ true → r ≡ clip c i
@@ -86,18 +86,18 @@ module _ (c : Class) (i : Interval) (fair : Clippable c i) where
       -- the test was passed over
       module _ (t : ltZ (held (i .high)) L ≡ false) where
         abbrev rest : ℤ
-        rest = i .high -ℤ lowest c i
+        rest = i .high -ℤ lowestIn c i
 
         abbrev ρ : List ℤ
-        ρ = i .low ∷ i .high ∷ lowest c i ∷ c .step ∷ steps c i ∷ []
+        ρ = i .low ∷ i .high ∷ lowestIn c i ∷ c .step ∷ steps c i ∷ []
 
-        room : lowest c i ≤ℤ i .high
-        room = lin (i .high ∷ lowest c i ∷ []) (test-is t) (search facts depth 20) (omega arith)
+        room : lowestIn c i ≤ℤ i .high
+        room = lin (i .high ∷ lowestIn c i ∷ []) (test-is t) (search facts depth 20) (omega arith)
 
-        over : i .low ≤ℤ lowest c i
+        over : i .low ≤ℤ lowestIn c i
         over = lin (i .low ∷ floorMod apart (c .step) ∷ []) (mod-range apart (c .step) (fair .moves) .0) (search facts depth 20) (omega arith)
 
-        limits-rest : InLimits rest (c .step)
+        limits-rest : DivisionLimits rest (c .step)
         limits-rest = record {
           dividend = lin ρ (room & over & fair .low & fair .high) (search facts depth 20) (omega arith);
           divisor = fair .step;
@@ -110,7 +110,7 @@ module _ (c : Class) (i : Interval) (fair : Clippable c i) where
         rest-asked : SFits w64 (held (i .high) -ℤ L)
         rest-asked = rw rest-is (fits-limit (limits-rest .dividend))
 
-        quotient-asked : InLimits (held (held (i .high) -ℤ L)) (held (c .step))
+        quotient-asked : DivisionLimits (held (held (i .high) -ℤ L)) (held (c .step))
         quotient-asked = rw rest-is (asked limits-rest)
 
         -- n is what the quotient gave
@@ -143,7 +143,7 @@ module _ (c : Class) (i : Interval) (fair : Clippable c i) where
           some : (r : Run) → r ≡ progression L (held (c .step)) (natAbs (held n)) → r ≡ clip c i
           some r z = rw (test-is t) (z ∙ whole)
             where
-              whole : progression L (held (c .step)) (natAbs (held n)) ≡ progression (lowest c i) (c .step) (natAbs (steps c i))
+              whole : progression L (held (c .step)) (natAbs (held n)) ≡ progression (lowestIn c i) (c .step) (natAbs (steps c i))
               whole = rw (toZ-ofZ fits-n, toZ-ofZ (fits-limit (fair .step)), n-is, L-is) refl
 
 sub-remainder : tie.Need-sub-remainder

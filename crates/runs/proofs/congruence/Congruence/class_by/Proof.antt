@@ -1,19 +1,19 @@
--- `Congruence::class_by` meets its contract: Solving.antt has the facts of numbers, and what is here hands it the result of
--- each call.
+-- `Congruence::class_by` meets its contract: CongruenceSolutions.antt has the facts of numbers, and what is here hands it the result
+-- of each call.
 use mathlib.Core.Path.{_≡_}
 use mir.Syntax.{w64}
 use mir.Val.{SFits}
 use mir.Facts.{toZ-ofZ}
 use Rattle.ints.specs.Within.{Within}
 use Rattle.ints.specs.Floor.{floorDiv, floorMod}
-use Rattle.ints.specs.Division.{InLimits, limit}
+use Rattle.ints.specs.Division.{DivisionLimits, limit}
 use Rattle.ints.proofs.{ℤ, pos, _*ℤ_, _≤ℤ_, _<ℤ_, [], _∷_, arith, lin, _&_, facts, within-mul}
 use Rattle.ints.proofs.Signed.{held}
 use Rattle.ints.proofs.Floor.{floor-within, mod-range}
 use Rattle.runs.specs.Method.{IsFactor}
 use Rattle.ints.proofs.Answers.{fits-limit, asked, answered}
 use Rattle.runs.proofs.Euclid.{cofactor-range}
-use Rattle.runs.proofs.Solving.{limits, period-range, every-by, limits-value, limits-modulus}
+use Rattle.runs.proofs.CongruenceSolutions.{limits, period-range, every-by, limits-value, limits-modulus}
 use Rattle.runs.proofs.congruence.Congruence.class_by.Statement.{statement}
 use Rattle.runs.proofs.congruence.Congruence.class_by.Tie as tie
 use Rattle.runs.proofs.congruence.Congruence.class_by.Reads as reads
@@ -64,10 +64,10 @@ module _ (s : Start) where
   most : d ≤ℤ pos 2000000000
   most = s .pre .0 .modulus
 
-  limits-d : InLimits d g
+  limits-d : DivisionLimits d g
   limits-d = limits-modulus (s .pre .0) factor
 
-  limits-v : InLimits v g
+  limits-v : DivisionLimits v g
   limits-v = limits-value (s .pre .0) factor
 
 -- ---- the step
@@ -87,10 +87,10 @@ module _ (c : Step) where
       (step-is & period-range (factor start) (above start) & most start)
       (search facts depth 20) (omega arith)
 
-  limits-step : {n : ℤ} → Within limit n → InLimits n step
+  limits-step : {n : ℤ} → Within limit n → DivisionLimits n step
   limits-step h = limits h (step-range .0) (step-range .1)
 
-  limits-x : InLimits (x start) step
+  limits-x : DivisionLimits (x start) step
   limits-x = limits-step (lin (x start ∷ d start ∷ []) (cofactor-range (factor start) (above start) & most start) (search facts depth 20) (omega arith))
 
   -- what a division by the step leaves
@@ -122,7 +122,7 @@ module _ (c : Share) where
   w-is : w ≡ floorDiv (v origin) (g origin)
   w-is = answered (limits-v origin) floorDiv (c .quotient2 .ensures)
 
-  limits-w : InLimits w (step (stepped reduced))
+  limits-w : DivisionLimits w (step (stepped reduced))
   limits-w =
       let small : Within limit (floorDiv (v origin) (g origin)) = floor-within (v origin) (g origin) (limits-v origin .not-zero) (limits-v origin .dividend) in
       limits-step (stepped reduced) (lin (w ∷ floorDiv (v origin) (g origin) ∷ []) (w-is & small) (search facts depth 20) (omega arith))
@@ -150,7 +150,7 @@ module _ (c : Rest) where
   y-within : Within 2000000000 y
   y-within = rest-within before (w shared) y-is
 
-  limits-p : InLimits (t′ *ℤ y) (step before)
+  limits-p : DivisionLimits (t′ *ℤ y) (step before)
   limits-p = limits-step before (within-mul t-within y-within)
 
   fits-t : SFits w64 t′

@@ -6,12 +6,12 @@ use mir.Syntax.{w64}
 use mir.Val.{SFits}
 use mir.Facts.{toZ-ofZ}
 use Rattle.ints.specs.Floor.{floorMod}
-use Rattle.ints.specs.Division.{InLimits}
+use Rattle.ints.specs.Division.{DivisionLimits}
 use Rattle.ints.proofs.{ℤ, pos, ltZ, _≤ℤ_, _<ℤ_, [], _∷_, arith, lin, _&_, signed}
 use Rattle.ints.proofs.Signed.{held}
 use Rattle.runs.specs.Method.{IsFactor}
 use Rattle.ints.proofs.Answers.{asked, answered}
-use Rattle.runs.proofs.Solving.{limits-value, nothing, no-rest}
+use Rattle.runs.proofs.CongruenceSolutions.{limits-value, nothing, no-rest}
 use Rattle.runs.proofs.congruence.Congruence.solve.Statement.{statement}
 use Rattle.runs.proofs.congruence.Congruence.solve.Tie as tie
 use Rattle.runs.proofs.congruence.Congruence.solve.Reads as reads
@@ -44,7 +44,7 @@ module _ (c : lts.After-of claims reads.Pre reads.Post) where
       let fits-d : SFits w64 d = lin (d ∷ []) (reach .above & reach .modulus) (search signed depth 20) (omega arith) in
       rw (toZ-ofZ fits-u, toZ-ofZ fits-d) at (c .of .ensures)
 
-  limits-v : InLimits v g
+  limits-v : DivisionLimits v g
   limits-v = limits-value (c .before .before .before .pre) factor
 
 -- what the test tells of the remainder

@@ -8,7 +8,7 @@ use mir.Facts.{toZ-ofZ}
 use Rattle.ints.proofs.{pos, ltZ}
 use Rattle.ints.proofs.Signed.{held}
 use Rattle.runs.specs.declared.Run.{Run}
-use Rattle.runs.proofs.Turns.{turned}
+use Rattle.families.specs.FamilyRun.{turned}
 use Rattle.families.specs.Model.{Indices as Pair, directed}
 use Rattle.solver.specs.Steps.{indicesBy}
 use Rattle.solver.proofs.join.Indices.directed.Statement.{statement}

@@ -1,0 +1,84 @@
+-- The planner's last steps as functions on lists: the choice in each component and the objective, from what is known of each
+-- variable, and so the model's findings. Like the model of the families they compute, and nothing here has to be believed:
+-- proofs/ModelFindings.antt shows that they give `verdict` and `sheet`.
+use mathlib.Core.Option.{Option}
+use mathlib.Core.List.{List}
+use Prim.Native.Nat.{ℕ}
+use lib.Dec.{eqb, ltb}
+use lib.ListN.{length}
+use lib.IntN.{ℤ, pos, _+ℤ_, _*ℤ_}
+use Rattle.lists.specs.Keep.{keep}
+use Rattle.lists.specs.Sums.{sum, sumOf}
+use Rattle.lists.specs.Table.{table, upTo}
+use Rattle.runs.specs.declared.Run.{Run}
+use Rattle.jobs.specs.Decide.{equal?, firstOf}
+use Rattle.jobs.specs.Job.{Job, jobOf, variable}
+use Rattle.jobs.specs.Component.{leads}
+use Rattle.jobs.specs.Findings.{Findings}
+use Rattle.jobs.specs.Faults.{firstBroken}
+use Rattle.jobs.specs.Verdict.{Verdict, outcome, short?}
+use Rattle.jobs.specs.Sheet.{areaAfter}
+use Rattle.families.specs.Family.{choice}
+use Rattle.families.specs.Model.{labelAt, runAt, stateAfterAll}
+
+-- ---- the components of n variables, where g gives the lowest variable of the component of each
+unfoldable pub leadsBy : (ℕ → ℕ) → ℕ → List ℕ
+unfolding keep table
+leadsBy g n = keep (λ i. eqb (g i) i) (upTo n)
+
+-- the number of a variable's component
+unfoldable pub componentBy : (ℕ → ℕ) → ℕ → ℕ → ℕ
+unfolding keep leadsBy
+componentBy g n i = length (keep (λ l. ltb l (g i)) (leadsBy g n))
+
+-- the lowest variable of the first component whose family is empty, where r gives each variable's run in its component's family
+unfoldable pub emptyBy : ℕ → (ℕ → ℕ) → (ℕ → Run) → Option ℕ
+unfolding firstOf leadsBy
+emptyBy n g r = firstOf (λ l. equal? (r l .many) 0) (leadsBy g n)
+
+-- ---- the choice, where w gives the weight of each variable
+module _ (n : ℕ) (w : ℕ → ℤ) (g : ℕ → ℕ) (r : ℕ → Run) where
+  -- of the component of l: the slope, and the index of the member that is chosen
+  unfoldable pub slopeBy : ℕ → ℤ
+  unfolding sum
+  slopeBy l = sumOf g l n (λ i. w i *ℤ r i .step)
+
+  unfoldable pub chosenBy : ℕ → ℕ
+  unfolding slopeBy
+  chosenBy l = choice (slopeBy l) (r l .many)
+
+  unfoldable pub numberBy : ℕ → ℤ
+  unfolding chosenBy
+  numberBy i = r i .first +ℤ r i .step *ℤ pos (chosenBy (g i))
+
+  unfoldable pub objectiveBy : ℤ
+  unfolding sum numberBy
+  objectiveBy = sum n (λ i. w i *ℤ numberBy i)
+
+  abbrev pub findingsBy : Findings
+  findingsBy = record {
+    n = n;
+    leads = leadsBy g n;
+    component = componentBy g n;
+    run = r;
+    assigned = numberBy;
+    chosen = chosenBy;
+    slope = slopeBy;
+    objective = objectiveBy;
+  }
+
+-- ---- of a job, with the families that the model ends in
+abbrev pub modelFindings : Job → Findings
+modelFindings j = let t = stateAfterAll j in findingsBy (length (j .variables)) (λ i. variable j i .weight) (labelAt t) (runAt t)
+
+abbrev pub modelEmpty : Job → Option ℕ
+modelEmpty j = let t = stateAfterAll j in emptyBy (length (j .variables)) (labelAt t) (runAt t)
+
+-- of the bytes of a job and the area as lent
+unfoldable pub verdictBy : List ℕ → List ℕ → Verdict
+unfolding firstBroken jobOf leads stateAfterAll emptyBy objectiveBy
+verdictBy s area = let j = jobOf s in outcome (firstBroken (short? j area) s) (modelEmpty j) (modelFindings j .objective)
+
+unfoldable pub sheetBy : List ℕ → List ℕ → List ℕ
+unfolding jobOf stateAfterAll verdictBy areaAfter leadsBy componentBy slopeBy chosenBy numberBy objectiveBy
+sheetBy s area = areaAfter (modelFindings (jobOf s)) (verdictBy s area) area

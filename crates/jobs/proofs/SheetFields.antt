@@ -1,0 +1,280 @@
+-- How long a sheet is, where its fields stand, and that what is written on it reads back where it fits its field; and that two
+-- findings that agree are laid out alike.
+use mathlib.Core.Path.{_≡_, refl, sym, _∙_, ap, ap₂}
+use mathlib.Core.List.{List, _++_, flatMap}
+use Prim.Native.Nat.{ℕ, _+_, _*_, _^_, _≤_, _<_}
+use native.Mathlib.Omega.{arith}
+use lib.ListN.{length, getD, drop, length-append, length-drop}
+use Rattle.ints.specs.Within.{Within}
+use Rattle.ints.proofs.{ℤ}
+use Rattle.runs.specs.declared.Run.{Run}
+use Rattle.runs.specs.Run.{bound}
+use Rattle.lists.specs.Members.{_∈_}
+use Rattle.lists.specs.Table.{upTo}
+use Rattle.lists.proofs.Maps.{flatMap-same}
+use Rattle.lists.proofs.Places.{length-both, drop-past, length-flatMap}
+use Rattle.lists.proofs.Table.{in-upTo, table-at, length-upTo}
+use Rattle.bytes.specs.LittleEndian.{unsigned, i64, bytesOf, signedBytes}
+use Rattle.jobs.specs.Job.{Job, jobOf}
+use Rattle.jobs.specs.SheetOffsets.{sheetLength}
+use Rattle.jobs.specs.Component.{componentCount, component}
+use Rattle.jobs.specs.Findings.{Findings, findings}
+use Rattle.jobs.specs.Verdict.{Verdict, planned, noFit, refused, verdict}
+use Rattle.jobs.specs.SheetLayout.{sheetHeader, sheetVariable, sheetGroup, sheetVariables, sheetGroups, laidOut}
+use Rattle.jobs.specs.Sheet.{areaAfter, sheet}
+use Rattle.jobs.specs.Demands.{worthOn, numberOn, baseOn, stepOn, LaidOut}
+use Rattle.bytes.proofs.LittleEndian.{unsigned-first, unsigned-past, unsigned-part, unsigned-bytesOf}
+use Rattle.bytes.proofs.TwosComplement.{FitsBytes, within-fits, signed-field}
+use Rattle.jobs.proofs.Components.{length-leads, component-below}
+use Rattle.jobs.proofs.Numbering.{numbered-by}
+
+-- ---- how long each part is: the widths of its fields are numerals, so this computes
+pub length-header : (n g : ℕ) (worth : ℤ) → length (sheetHeader n g worth) ≡ 24
+unfolding sheetHeader
+length-header n g worth = refl
+
+length-variable : (x : ℤ) (r : Run) (group : ℕ) → length (sheetVariable x r group) ≡ 16
+unfolding sheetVariable
+length-variable x r group = refl
+
+length-group : (many k : ℕ) (gain : ℤ) → length (sheetGroup many k gain) ≡ 16
+unfolding sheetGroup
+length-group many k gain = refl
+
+pub length-variables : (x : ℕ → ℤ) (r : ℕ → Run) (group : ℕ → ℕ) (n : ℕ) → length (sheetVariables x r group n) ≡ 16 * n
+unfolding sheetVariables
+length-variables x r group n = length-flatMap (λ i. sheetVariable (x i) (r i) (group i)) 16 (λ i. length-variable (x i) (r i) (group i)) (upTo n) ∙ ap (λ n. 16 * n) (length-upTo n)
+
+pub length-groups : (r : ℕ → Run) (k : ℕ → ℕ) (gain : ℕ → ℤ) (leaders : List ℕ) → length (sheetGroups r k gain leaders) ≡ 16 * length leaders
+unfolding sheetGroups
+length-groups r k gain leaders = length-flatMap (λ l. sheetGroup (r l .many) (k l) (gain l)) 16 (λ l. length-group (r l .many) (k l) (gain l)) leaders
+
+module _ (f : Findings) where
+  abbrev header : List ℕ
+  header = sheetHeader (f .n) (length (f .leads)) (f .objective)
+
+  abbrev variableRow : ℕ → List ℕ
+  variableRow i = sheetVariable (f .assigned i) (f .run i) (f .component i)
+
+  abbrev groupRow : ℕ → List ℕ
+  groupRow l = sheetGroup (f .run l .many) (f .chosen l) (f .slope l)
+
+  abbrev variableRows : List ℕ
+  variableRows = sheetVariables (f .assigned) (f .run) (f .component) (f .n)
+
+  abbrev groupRows : List ℕ
+  groupRows = sheetGroups (f .run) (f .chosen) (f .slope) (f .leads)
+
+  laidOut-is : laidOut f ≡ header ++ variableRows ++ groupRows
+  unfolding laidOut
+  laidOut-is = refl
+
+  length-variableRows : length variableRows ≡ 16 * f .n
+  length-variableRows = length-variables (f .assigned) (f .run) (f .component) (f .n)
+
+  length-groupRows : length groupRows ≡ 16 * length (f .leads)
+  length-groupRows = length-groups (f .run) (f .chosen) (f .slope) (f .leads)
+
+  length-front : length (header ++ variableRows) ≡ 24 + 16 * f .n
+  length-front = length-both header variableRows (length-header (f .n) (length (f .leads)) (f .objective)) length-variableRows
+
+  pub length-laidOut : length (laidOut f) ≡ 24 + 16 * f .n + 16 * length (f .leads)
+  length-laidOut = ap length laidOut-is ∙ length-both (header ++ variableRows) groupRows length-front length-groupRows
+
+  -- ---- where each part is read, on a sheet with anything behind it
+  module _ (rest : List ℕ) (k : ℕ) where
+    -- up to the end, and up to the group rows
+    in-sheet : (at : ℕ) → at + k ≤ 24 + 16 * f .n + 16 * length (f .leads) → unsigned k (laidOut f ++ rest) at ≡ unsigned k (header ++ variableRows ++ groupRows) at
+    in-sheet at h = unsigned-first k (laidOut f) rest at (omega (arith, length-laidOut)) ∙ ap (λ s. unsigned k s at) laidOut-is
+
+    in-front : (at : ℕ) → at + k ≤ 24 + 16 * f .n → unsigned k (laidOut f ++ rest) at ≡ unsigned k (header ++ variableRows) at
+    in-front at h = in-sheet at (omega arith) ∙ unsigned-first k (header ++ variableRows) groupRows at (omega (arith, length-front))
+
+    in-header : (at : ℕ) → at + k ≤ 24 → unsigned k (laidOut f ++ rest) at ≡ unsigned k header at
+    in-header at h = in-front at (omega arith) ∙ unsigned-first k header variableRows at (omega (arith, length-header (f .n) (length (f .leads)) (f .objective)))
+
+    in-variable : (i at : ℕ) → i < f .n → at + k ≤ 16 → unsigned k (laidOut f ++ rest) (24 + 16 * i + at) ≡ unsigned k (variableRow i) at
+    unfolding sheetVariables
+    in-variable i at h l =
+        let e : 24 + 16 * i + at ≡ 24 + (16 * i + at) = omega arith in
+        in-front (24 + 16 * i + at) (omega arith)
+        ∙ ap (unsigned k (header ++ variableRows)) e
+        ∙ unsigned-past k header variableRows (16 * i + at) (length-header (f .n) (length (f .leads)) (f .objective))
+        ∙ unsigned-part variableRow 16 (λ i. length-variable (f .assigned i) (f .run i) (f .component i)) (upTo (f .n)) 0 k i at (omega (arith, length-upTo (f .n))) l
+        ∙ ap (λ i. unsigned k (variableRow i) at) (table-at (λ i. i) (f .n) i 0 h)
+
+    in-group : (g at : ℕ) → g < length (f .leads) → at + k ≤ 16 → unsigned k (laidOut f ++ rest) (24 + 16 * f .n + 16 * g + at) ≡ unsigned k (groupRow (getD (f .leads) g 0)) at
+    unfolding sheetGroups
+    in-group g at h l =
+        let e : 24 + 16 * f .n + 16 * g + at ≡ 24 + 16 * f .n + (16 * g + at) = omega arith in
+        in-sheet (24 + 16 * f .n + 16 * g + at) (omega arith)
+        ∙ ap (unsigned k (header ++ variableRows ++ groupRows)) e
+        ∙ unsigned-past k (header ++ variableRows) groupRows (16 * g + at) length-front
+        ∙ unsigned-part groupRow 16 (λ l. length-group (f .run l .many) (f .chosen l) (f .slope l)) (f .leads) 0 k g at h l
+
+  -- ---- what reads back
+  worth-field : unsigned 8 header 16 ≡ unsigned 8 (signedBytes 8 (f .objective)) 0
+  unfolding sheetHeader unsigned
+  worth-field = refl
+
+  module _ (rest : List ℕ) where
+    pub worth-back : FitsBytes 8 (f .objective) → worthOn (laidOut f ++ rest) ≡ f .objective
+    worth-back h = signed-field 8 (f .objective) (in-header rest 8 16 (omega arith) ∙ worth-field) h
+
+    -- of the row of variable i
+    module _ (i : ℕ) (h : i < f .n) where
+      number-field : unsigned 4 (variableRow i) 0 ≡ unsigned 4 (signedBytes 4 (f .assigned i)) 0
+      unfolding sheetVariable unsigned
+      number-field = refl
+
+      base-field : unsigned 4 (variableRow i) 4 ≡ unsigned 4 (signedBytes 4 (f .run i .first)) 0
+      unfolding sheetVariable unsigned
+      base-field = refl
+
+      step-field : unsigned 4 (variableRow i) 8 ≡ unsigned 4 (signedBytes 4 (f .run i .step)) 0
+      unfolding sheetVariable unsigned
+      step-field = refl
+
+      pub number-back : Within bound (f .assigned i) → numberOn (laidOut f ++ rest) i ≡ f .assigned i
+      number-back b =
+          let e : 24 + 16 * i ≡ 24 + 16 * i + 0 = omega arith in
+          signed-field 4 (f .assigned i) (ap (unsigned 4 (laidOut f ++ rest)) e ∙ in-variable rest 4 i 0 h (omega arith) ∙ number-field) (within-fits 4 bound (f .assigned i) (omega arith) b)
+
+      pub base-back : Within bound (f .run i .first) → baseOn (laidOut f ++ rest) i ≡ f .run i .first
+      base-back b = signed-field 4 (f .run i .first) (in-variable rest 4 i 4 h (omega arith) ∙ base-field) (within-fits 4 bound (f .run i .first) (omega arith) b)
+
+      pub step-back : Within (2 * bound) (f .run i .step) → stepOn (laidOut f ++ rest) i ≡ f .run i .step
+      step-back b = signed-field 4 (f .run i .step) (in-variable rest 4 i 8 h (omega arith) ∙ step-field) (within-fits 4 (2 * bound) (f .run i .step) (omega arith) b)
+
+    -- of the row of component g, whose lowest variable is l
+    module _ (g l : ℕ) (h : g < length (f .leads)) (lead : getD (f .leads) g 0 ≡ l) where
+      of-row : (k at : ℕ) → at + k ≤ 16 → unsigned k (laidOut f ++ rest) (24 + 16 * f .n + 16 * g + at) ≡ unsigned k (groupRow l) at
+      of-row k at b = in-group rest k g at h b ∙ ap (λ l. unsigned k (groupRow l) at) lead
+
+      fits-field : unsigned 4 (groupRow l) 0 ≡ unsigned 4 (bytesOf 4 (f .run l .many)) 0
+      unfolding sheetGroup unsigned
+      fits-field = refl
+
+      chosen-field : unsigned 4 (groupRow l) 4 ≡ unsigned 4 (bytesOf 4 (f .chosen l)) 0
+      unfolding sheetGroup unsigned
+      chosen-field = refl
+
+      gain-field : unsigned 8 (groupRow l) 8 ≡ unsigned 8 (signedBytes 8 (f .slope l)) 0
+      unfolding sheetGroup unsigned
+      gain-field = refl
+
+      pub fits-back : f .run l .many < 4294967296 → unsigned 4 (laidOut f ++ rest) (24 + 16 * f .n + 16 * g) ≡ f .run l .many
+      fits-back b =
+          let e : 24 + 16 * f .n + 16 * g ≡ 24 + 16 * f .n + 16 * g + 0 = omega arith in
+          ap (unsigned 4 (laidOut f ++ rest)) e ∙ of-row 4 0 (omega arith) ∙ fits-field ∙ unsigned-bytesOf 4 (f .run l .many) b
+
+      pub chosen-back : f .chosen l < 4294967296 → unsigned 4 (laidOut f ++ rest) (24 + 16 * f .n + 16 * g + 4) ≡ f .chosen l
+      chosen-back b = of-row 4 4 (omega arith) ∙ chosen-field ∙ unsigned-bytesOf 4 (f .chosen l) b
+
+      pub gain-back : FitsBytes 8 (f .slope l) → i64 (laidOut f ++ rest) (24 + 16 * f .n + 16 * g + 8) ≡ f .slope l
+      gain-back b = signed-field 8 (f .slope l) (of-row 8 8 (omega arith) ∙ gain-field) b
+
+    -- an unsigned field of the header, and of a variable's row
+    header-back : (k y at : ℕ) → at + k ≤ 24 → unsigned k header at ≡ unsigned k (bytesOf k y) 0 → y < 256 ^ k → unsigned k (laidOut f ++ rest) at ≡ y
+    header-back k y at h e l = in-header rest k at h ∙ e ∙ unsigned-bytesOf k y l
+
+    variable-back : (k y i at : ℕ) → i < f .n → at + k ≤ 16 → unsigned k (variableRow i) at ≡ unsigned k (bytesOf k y) 0 → y < 256 ^ k →
+        unsigned k (laidOut f ++ rest) (24 + 16 * i + at) ≡ y
+    variable-back k y i at m h e l = in-variable rest k i at m h ∙ e ∙ unsigned-bytesOf k y l
+
+-- the counts, the offsets and the numbers of components fit their fields where n fits its own
+pub laidOut-back : (j : Job) (rest : List ℕ) → length (j .variables) < 65536 → LaidOut j (laidOut (findings j) ++ rest)
+unfolding laidOut sheetHeader sheetVariable unsigned
+laidOut-back j rest h = record {
+  mark = refl;
+  variables = header-back (findings j) rest 2 (length (j .variables)) 4 (omega arith) refl (omega arith);
+  variable-rows = header-back (findings j) rest 4 24 8 (omega arith) refl (omega arith);
+  group-rows = header-back (findings j) rest 4 (24 + 16 * length (j .variables)) 12 (omega arith) refl (omega arith);
+  groups =
+      numbered-by j _ _ (header-back (findings j) rest 2 (componentCount j) 6 (omega arith) refl (omega (arith, length-leads j))) (
+      λ i m. variable-back (findings j) rest 2 (component j i) i 12 m (omega arith) refl (omega (arith, component-below j i m, length-leads j))
+      );
+  zero = λ i m. variable-back (findings j) rest 2 0 i 14 m (omega arith) refl (omega arith);
+}
+
+-- ---- findings that agree wherever they are shown are laid out alike
+pub record Agree (f g : Findings) : Type 0 where
+  pub variables : f .n ≡ g .n
+  pub leading : f .leads ≡ g .leads
+  pub numbers : (i : ℕ) → i < f .n → f .component i ≡ g .component i
+  pub runs : (i : ℕ) → i < f .n → f .run i ≡ g .run i
+  pub values : (i : ℕ) → i < f .n → f .assigned i ≡ g .assigned i
+  pub many : (l : ℕ) → l ∈ f .leads → f .run l .many ≡ g .run l .many
+  pub choices : (l : ℕ) → l ∈ f .leads → f .chosen l ≡ g .chosen l
+  pub slopes : (l : ℕ) → l ∈ f .leads → f .slope l ≡ g .slope l
+  pub total : f .objective ≡ g .objective
+
+module _ {f g : Findings} (a : Agree f g) where
+  same-header : header f ≡ header g
+  same-header = rw (a .variables, a .leading, a .total) refl
+
+  same-variable : (i : ℕ) → i < f .n → variableRow f i ≡ variableRow g i
+  same-variable i h = rw (a .numbers i h, a .runs i h, a .values i h) refl
+
+  same-group : (l : ℕ) → l ∈ f .leads → groupRow f l ≡ groupRow g l
+  same-group l m = rw (a .many l m, a .choices l m, a .slopes l m) refl
+
+  same-variables : variableRows f ≡ variableRows g
+  unfolding sheetVariables
+  same-variables =
+      flatMap-same (variableRow f) (variableRow g) (upTo (f .n)) (λ i m. same-variable i (in-upTo (f .n) i .0 m))
+      ∙ ap (λ n. flatMap (variableRow g) (upTo n)) (a .variables)
+
+  same-groups : groupRows f ≡ groupRows g
+  unfolding sheetGroups
+  same-groups = flatMap-same (groupRow f) (groupRow g) (f .leads) same-group ∙ ap (flatMap (groupRow g)) (a .leading)
+
+  pub same-layout : laidOut f ≡ laidOut g
+  same-layout = laidOut-is f ∙ ap₂ _++_ (ap₂ _++_ same-header same-variables) same-groups ∙ sym (laidOut-is g)
+
+-- ---- the area after the call: as long as before, and with the same past the sheet
+length-after : (f : Findings) (v : Verdict) (area : List ℕ) → ((w : ℤ) → v ≡ planned w → length (laidOut f) ≤ length area) → length (areaAfter f v area) ≡ length area
+unfolding areaAfter
+length-after f (planned w) area h = length-append (laidOut f) (drop (length (laidOut f)) area) ∙ omega (arith, length-drop (length (laidOut f)) area, h w refl)
+length-after f (noFit l) area h = refl
+length-after f (refused reason row) area h = refl
+
+drop-after : (f : Findings) (v : Verdict) (area : List ℕ) → drop (length (laidOut f)) (areaAfter f v area) ≡ drop (length (laidOut f)) area
+unfolding areaAfter
+drop-after f (planned w) area = drop-past (laidOut f) (drop (length (laidOut f)) area)
+drop-after f (noFit l) area = refl
+drop-after f (refused reason row) area = refl
+
+-- what it is in each case
+module _ (s area : List ℕ) where
+  abbrev f : Findings
+  f = findings (jobOf s)
+
+  pub length-sheet-is : length (laidOut (findings (jobOf s))) ≡ sheetLength (jobOf s)
+  length-sheet-is = length-laidOut f
+
+  sheet-is : {v : Verdict} → verdict s area ≡ v → sheet s area ≡ areaAfter f v area
+  unfolding sheet
+  sheet-is e = ap (λ v. areaAfter f v area) e
+
+  pub if-planned : {w : ℤ} → verdict s area ≡ planned w → sheet s area ≡ laidOut (findings (jobOf s)) ++ drop (length (laidOut (findings (jobOf s)))) area
+  unfolding areaAfter
+  if-planned e = sheet-is e
+
+  pub if-noFit : {l : ℕ} → verdict s area ≡ noFit l → sheet s area ≡ area
+  unfolding areaAfter
+  if-noFit e = sheet-is e
+
+  pub if-refused : {reason row : ℕ} → verdict s area ≡ refused reason row → sheet s area ≡ area
+  unfolding areaAfter
+  if-refused e = sheet-is e
+
+  pub length-sheet : ((w : ℤ) → verdict s area ≡ planned w → sheetLength (jobOf s) ≤ length area) → length (sheet s area) ≡ length area
+  length-sheet h = ap length (sheet-is refl) ∙ length-after f (verdict s area) area (λ w e. omega (arith, h w e, length-sheet-is))
+
+  pub drop-sheet : drop (sheetLength (jobOf s)) (sheet s area) ≡ drop (sheetLength (jobOf s)) area
+  drop-sheet =
+      ap (λ n. drop n (sheet s area)) (sym length-sheet-is)
+      ∙ ap (drop (length (laidOut f))) (sheet-is refl)
+      ∙ drop-after f (verdict s area) area
+      ∙ ap (λ n. drop n area) length-sheet-is

@@ -1,0 +1,55 @@
+-- What holds of a job that the check accepts, once it is read: how many variables and components it has, and that the bounds in its
+-- rows are its own.
+use mathlib.Core.Path.{_≡_, sym, _∙_, ap, subst}
+use mathlib.Core.List.{List}
+use Prim.Native.Nat.{ℕ}
+use lib.Dec.{eqb}
+use lib.ListN.{length, getD}
+use Rattle.lists.specs.Members.{_∈_}
+use Rattle.lists.specs.Keep.{keep}
+use Rattle.lists.specs.Table.{upTo}
+use Rattle.lists.proofs.Keep.{keep-same}
+use Rattle.lists.proofs.Table.{in-upTo}
+use Rattle.jobs.specs.declared.Checked.{Checked}
+use Rattle.jobs.specs.declared.Checked.the-variants.{Accepted}
+use Rattle.jobs.specs.Faults.{answerOf, noArea?, ChecksExactly}
+use Rattle.jobs.specs.Job.{jobOf, variableCount, equationCount}
+use Rattle.jobs.specs.Component.{lowest, lowestBy, leads, componentCount}
+use Rattle.jobs.proofs.Faults.{sound-iff}
+use Rattle.jobs.specs.Lawful.{Lawful}
+use Rattle.jobs.proofs.JobOf.{variables-of, equations-of}
+use Rattle.jobs.proofs.Lawful.{lawful}
+use Rattle.solver.specs.Families.{Families}
+use Rattle.solver.specs.declared.State.{State}
+use Rattle.jobs.specs.declared.Bounds.{Bounds}
+use Rattle.jobs.specs.Bounds.{withBounds, BoundedBy}
+use Rattle.solver.specs.VariableArrays.{BoundsOf}
+use Rattle.solver.specs.Labels.{Labels}
+use Rattle.solver.proofs.OwnBounds.{own-bounds, own-bounded}
+
+-- it is lawful
+pub accepts : (s : List ℕ) (c : Checked) → ChecksExactly s (answerOf c) → c ≡ Accepted → Lawful s
+accepts s c x a = lawful noArea? s (sound-iff s noArea? .1 (x .acceptance .0 (ap answerOf a)))
+
+-- n and m are the job's numbers of variables and equations
+module _ (s : List ℕ) (n m : ℕ) (p : n ≡ variableCount s) (q : m ≡ equationCount s) where
+  pub vars : n ≡ length (jobOf s .variables)
+  vars = p ∙ sym (variables-of s)
+
+  -- the components that are counted are those of the definition
+  pub counted : (labels : List ℕ) (g : ℕ) → Labels (jobOf s) m n labels → g ≡ length (keep (λ i. eqb (getD labels i 0) i) (upTo n)) → g ≡ componentCount (jobOf s)
+  unfolding leads lowest
+  counted labels g a e = e ∙ ap length (keep-same (λ i. eqb (getD labels i 0) i) (λ i. eqb (lowest (jobOf s) i) i) (upTo n) same) ∙ ap (λ n. length (keep (λ i. eqb (lowest (jobOf s) i) i) (upTo n))) vars
+    where
+      same : (i : ℕ) → i ∈ upTo n → eqb (getD labels i 0) i ≡ eqb (lowest (jobOf s) i) i
+      same i h = ap (λ l. eqb l i) (a .at i (in-upTo n i .0 h) ∙ ap (λ m. lowestBy (jobOf s) m i) (q ∙ sym (equations-of s)))
+
+  module _ (bounds : List Bounds) (b : BoundsOf (jobOf s) n bounds) where
+    own : BoundsOf (jobOf s) (length (jobOf s .variables)) bounds
+    own = subst (λ n. BoundsOf (jobOf s) n bounds) vars b
+
+    pub bounded : Lawful s → BoundedBy bounds n
+    bounded f = subst (BoundedBy bounds) (sym vars) (own-bounded (jobOf s) bounds own (f .job))
+
+    pub families : (x : State) → Families (withBounds (jobOf s) bounds) x → Families (jobOf s) x
+    families x f = subst (λ j. Families j x) (own-bounds (jobOf s) bounds own) f

@@ -1,0 +1,66 @@
+-- The same of a job's bytes with other bounds: what the loop over its equations knows at its start, at each row and at its end.
+use mathlib.Core.Path.{_≡_, refl, sym, _∙_, ap, subst}
+use mathlib.Core.List.{List}
+use Prim.Native.Nat.{ℕ, _<_}
+use native.Mathlib.Omega.{arith}
+use lib.ListN.{length, getD}
+use Rattle.runs.specs.declared.Run.{Run}
+use Rattle.runs.specs.Run.{empty, full}
+use Rattle.runs.specs.Search.{meet}
+use Rattle.jobs.specs.declared.Equation.{Equation}
+use Rattle.jobs.specs.declared.Bounds.{Bounds}
+use Rattle.jobs.specs.Job.{Job, jobOf, variable, equation, noEquation}
+use Rattle.jobs.specs.Lawful.{LawfulJob}
+use Rattle.jobs.specs.Component.{lowest}
+use Rattle.jobs.specs.Family.{familyRun}
+use Rattle.jobs.specs.Bounds.{withBounds, BoundedBy}
+use Rattle.jobs.proofs.JobOf.{variables-of, equations-of}
+use Rattle.jobs.proofs.WithBounds.{same-length, same-equations, variable-with, lawful-with}
+use Rattle.families.specs.Model.{interval}
+use Rattle.solver.specs.Families.{Families}
+use Rattle.solver.specs.VariableArrays.{Begins}
+use Rattle.solver.specs.Labels.{Apart}
+use Rattle.solver.proofs.LawfulRows.{Sizes, n-most}
+use Rattle.solver.proofs.CodeFollowsModel.{Follows, At, follows-start as begins, follows-end as ends}
+
+module _ {s : List ℕ} {n m : ℕ} (z : Sizes s n m) (b : List Bounds) (o : BoundedBy b n) where
+  abbrev job : Job
+  job = withBounds (jobOf s) b
+
+  vars : length (jobOf s .variables) ≡ n
+  vars = variables-of s ∙ sym (z .1 .0)
+
+  n-is : length (job .variables) ≡ n
+  n-is = same-length (jobOf s) b ∙ vars
+
+  m-is : length (job .equations) ≡ m
+  m-is = ap length (same-equations (jobOf s) b) ∙ equations-of s ∙ sym (z .1 .1)
+
+  lawful : LawfulJob job
+  lawful = lawful-with (jobOf s) b (z .0 .job) (subst (BoundedBy b) (sym vars) o)
+
+  -- before any equation
+  pub follows-start : (labels : List ℕ) (runs : List Run) → Apart labels → Begins b n runs → Follows job 0 labels runs
+  follows-start labels runs a e =
+      begins job lawful labels runs
+      (λ i h. a .at i (omega (arith, n-is, n-most z))) (λ i h. at i (omega (arith, n-is)))
+    where
+      at : (i : ℕ) → i < n → getD runs i empty ≡ meet full (interval (variable job i .low) (variable job i .high))
+      at i h = e .at i h ∙ rw (variable-with (jobOf s) b i (omega (arith, vars))) refl
+
+  -- after all of them
+  pub follows-end : (labels : List ℕ) (runs : List Run) → Follows job m labels runs → Families job (record { labels = labels; runs = runs })
+  follows-end labels runs f = record { label = λ i h. at i h .0; run = λ i h. at i h .1 }
+    where
+      at : (i : ℕ) → i < length (job .variables) → (getD labels i 0 ≡ lowest job i) × (getD runs i empty ≡ familyRun job i)
+      at = ends job lawful labels runs (subst (λ m. Follows job m labels runs) (sym m-is) f)
+
+  -- at one of them
+  pub at-row : {k : ℕ} {labels : List ℕ} {runs : List Run} {e : Equation} → k < m → Follows job k labels runs → e ≡ equation (jobOf s) k → At job n k labels runs e
+  at-row {k} h f r = record {
+    lawful = lawful;
+    all = n-is;
+    below = omega (arith, h, m-is);
+    follows = f;
+    row = r ∙ ap (λ es. getD es k noEquation) (sym (same-equations (jobOf s) b));
+  }

@@ -1,0 +1,138 @@
+//! Components, each named by its lowest variable.
+
+ghost use mathlib.Core.Path.{_≡_};
+ghost use mathlib.Core.Bool.{not};
+ghost use Prim.Native.Nat.{_≤_, _<_, min};
+ghost use lib.Dec.{eqb};
+ghost use lib.ListN.{length, getD};
+ghost use Rattle.lists.specs.Keep.{keep};
+ghost use Rattle.lists.specs.Table.{upTo, Tabulates};
+ghost use Rattle.jobs.specs.Job.{jobOf, variableCount, equationCount};
+ghost use Rattle.jobs.specs.Lawful.{Lawful};
+ghost use Rattle.solver.specs.Labels.{Apart, Labelled, Lowest, Merges, Labels};
+ghost use Rattle.solver.specs.StateArrays.{labelIn};
+ghost use Rattle.families.specs.ModelFindings.{componentBy};
+use jobs::Equation;
+
+// Does an equation between variables of these components join two sets that earlier rows left separate?
+pub(crate) fn joins(left: u16, right: u16) -> bool
+    ensures { λ r. ⌜ r ≡ not (eqb left right) ⌝ }
+{
+    left != right
+}
+
+// The lower of two lowest variables: that of both components together.
+pub(crate) fn lower(l: u16, r: u16) -> u16
+    ensures { λ q. ⌜ q ≡ min l r ⌝ }
+{
+    if l < r { l } else { r }
+}
+
+// Each variable in a component of its own.
+pub(crate) fn apart() -> [u16; 256]
+    ensures { λ r. ⌜ Apart r ⌝ }
+{
+    let mut labels: [u16; 256] = [0; 256];
+    let mut i: usize = 0;
+    while i < 256 {
+        labels[i] = i as u16;
+        i += 1;
+    }
+    labels
+}
+
+// The components l and r as one, for n variables.
+pub(crate) fn joined(labels: [u16; 256], l: u16, r: u16, n: usize) -> [u16; 256]
+    requires { ⌜ n ≤ 256 ⌝ }
+    requires { ⌜ l < n ⌝ }
+    requires { ⌜ r < n ⌝ }
+    requires { ⌜ Labelled labels n ⌝ }
+    ensures { λ q. ⌜ Merges labels l r n q ⌝ }
+{
+    if l < r {
+        renamed(labels, r, l, n)
+    } else {
+        renamed(labels, l, r, n)
+    }
+}
+
+// Those labelled with the higher take the lower. No variable before `high` has that label.
+fn renamed(labels: [u16; 256], high: u16, low: u16, n: usize) -> [u16; 256]
+    requires { ⌜ n ≤ 256 ⌝ }
+    requires { ⌜ low ≤ high ⌝ }
+    requires { ⌜ high < n ⌝ }
+    requires { ⌜ Labelled labels n ⌝ }
+    ensures { λ q. ⌜ Merges labels low high n q ⌝ }
+{
+    let mut out = labels;
+    let first = high as usize;
+    let mut i: usize = first;
+    while i < n {
+        if labels[i] == high {
+            out[i] = low;
+        }
+        i += 1;
+    }
+    out
+}
+
+// The lowest variable that the m equations of a job join to each of its n variables.
+pub fn lowest(job: &[u8], n: usize, m: usize) -> [u16; 256]
+    requires { ⌜ Lawful (now job) ⌝ }
+    requires { ⌜ n ≡ variableCount (now job) ⌝ }
+    requires { ⌜ m ≡ equationCount (now job) ⌝ }
+    ensures { λ r. ⌜ Labels (jobOf (now (job .entry))) m n r ⌝ }
+{
+    let mut labels = apart();
+    let mut k: usize = 0;
+    while k < m {
+        let e = Equation::read(job, n, k);
+        let left = e.left;
+        let right = e.right;
+        let l = labels[left];
+        let r = labels[right];
+        if joins(l, r) {
+            labels = joined(labels, l, r, n);
+        }
+        k += 1;
+    }
+    labels
+}
+
+// How many components n variables are in: 01's g.
+pub fn count(labels: [u16; 256], n: usize) -> usize
+    requires { ⌜ n ≤ 256 ⌝ }
+    ensures { λ g. ⌜ g ≡ length (keep (λ i. eqb (getD labels i 0) i) (upTo n)) ⌝ }
+{
+    let mut g: usize = 0;
+    let mut v: usize = 0;
+    while v < n {
+        if labels[v] as usize == v {
+            g += 1;
+        }
+        v += 1;
+    }
+    g
+}
+
+// The number of the group of each of n variables: groups are numbered in the order of their lowest variables.
+pub fn numbers(labels: [u16; 256], n: usize) -> [u16; 256]
+    requires { ⌜ n ≤ 256 ⌝ }
+    requires { ⌜ Lowest labels n ⌝ }
+    ensures { λ r. ⌜ Tabulates 0 (componentBy (labelIn labels) n) n r ⌝ }
+{
+    let mut numbers: [u16; 256] = [0; 256];
+    let mut next: u16 = 0;
+    let mut i: usize = 0;
+    while i < n {
+        let l = labels[i] as usize;
+        if l == i {
+            numbers[i] = next;
+            next += 1;
+        } else {
+            numbers[i] = numbers[l];
+        }
+        i += 1;
+    }
+    numbers
+}
