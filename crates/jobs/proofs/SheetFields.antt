@@ -45,9 +45,9 @@ pub length-variables : (x : ℕ → ℤ) (r : ℕ → Run) (group : ℕ → ℕ)
 unfolding sheetVariables
 length-variables x r group n = length-flatMap (λ i. sheetVariable (x i) (r i) (group i)) 16 (λ i. length-variable (x i) (r i) (group i)) (upTo n) ∙ ap (λ n. 16 * n) (length-upTo n)
 
-pub length-groups : (r : ℕ → Run) (k : ℕ → ℕ) (gain : ℕ → ℤ) (leaders : List ℕ) → length (sheetGroups r k gain leaders) ≡ 16 * length leaders
+pub length-groups : (r : ℕ → Run) (k : ℕ → ℕ) (gain : ℕ → ℤ) (leads : List ℕ) → length (sheetGroups r k gain leads) ≡ 16 * length leads
 unfolding sheetGroups
-length-groups r k gain leaders = length-flatMap (λ l. sheetGroup (r l .many) (k l) (gain l)) 16 (λ l. length-group (r l .many) (k l) (gain l)) leaders
+length-groups r k gain leads = length-flatMap (λ l. sheetGroup (r l .many) (k l) (gain l)) 16 (λ l. length-group (r l .many) (k l) (gain l)) leads
 
 module _ (f : Findings) where
   abbrev header : List ℕ

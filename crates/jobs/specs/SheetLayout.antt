@@ -35,7 +35,7 @@ sheetVariables x r group n = flatMap (λ i. sheetVariable (x i) (r i) (group i))
 
 unfoldable pub sheetGroups : (ℕ → Run) → (ℕ → ℕ) → (ℕ → ℤ) → List ℕ → List ℕ
 unfolding flatMap sheetGroup
-sheetGroups r k gain leaders = flatMap (λ l. sheetGroup (r l .many) (k l) (gain l)) leaders
+sheetGroups r k gain leads = flatMap (λ l. sheetGroup (r l .many) (k l) (gain l)) leads
 
 -- all of it
 unfoldable pub laidOut : Findings → List ℕ

@@ -4,7 +4,7 @@ use mathlib.Core.Path.{_≡_, sym, _∙_, ap, subst}
 use mathlib.Core.List.{List}
 use Prim.Native.Nat.{ℕ}
 use lib.Dec.{eqb}
-use lib.ListN.{length, getD}
+use lib.ListN.{length}
 use Rattle.lists.specs.Members.{_∈_}
 use Rattle.lists.specs.Keep.{keep}
 use Rattle.lists.specs.Table.{upTo}
@@ -19,6 +19,8 @@ use Rattle.jobs.proofs.Faults.{sound-iff}
 use Rattle.jobs.specs.Lawful.{Lawful}
 use Rattle.jobs.proofs.JobOf.{variables-of, equations-of}
 use Rattle.jobs.proofs.Lawful.{lawful}
+use Rattle.families.specs.ModelFindings.{leadsBy}
+use Rattle.solver.specs.StateArrays.{labelIn}
 use Rattle.solver.specs.Families.{Families}
 use Rattle.solver.specs.declared.State.{State}
 use Rattle.jobs.specs.declared.Bounds.{Bounds}
@@ -37,11 +39,11 @@ module _ (s : List ℕ) (n m : ℕ) (p : n ≡ variableCount s) (q : m ≡ equat
   vars = p ∙ sym (variables-of s)
 
   -- the components that are counted are those of the definition
-  pub counted : (labels : List ℕ) (g : ℕ) → Labels (jobOf s) m n labels → g ≡ length (keep (λ i. eqb (getD labels i 0) i) (upTo n)) → g ≡ componentCount (jobOf s)
-  unfolding leads lowest
-  counted labels g a e = e ∙ ap length (keep-same (λ i. eqb (getD labels i 0) i) (λ i. eqb (lowest (jobOf s) i) i) (upTo n) same) ∙ ap (λ n. length (keep (λ i. eqb (lowest (jobOf s) i) i) (upTo n))) vars
+  pub counted : (labels : List ℕ) (g : ℕ) → Labels (jobOf s) m n labels → g ≡ length (leadsBy (labelIn labels) n) → g ≡ componentCount (jobOf s)
+  unfolding leads lowest leadsBy
+  counted labels g a e = e ∙ ap length (keep-same (λ i. eqb (labelIn labels i) i) (λ i. eqb (lowest (jobOf s) i) i) (upTo n) same) ∙ ap (λ n. length (keep (λ i. eqb (lowest (jobOf s) i) i) (upTo n))) vars
     where
-      same : (i : ℕ) → i ∈ upTo n → eqb (getD labels i 0) i ≡ eqb (lowest (jobOf s) i) i
+      same : (i : ℕ) → i ∈ upTo n → eqb (labelIn labels i) i ≡ eqb (lowest (jobOf s) i) i
       same i h = ap (λ l. eqb l i) (a .at i (in-upTo n i .0 h) ∙ ap (λ m. lowestBy (jobOf s) m i) (q ∙ sym (equations-of s)))
 
   module _ (bounds : List Bounds) (b : BoundsOf (jobOf s) n bounds) where

@@ -4,14 +4,13 @@ ghost use mathlib.Core.Path.{_≡_};
 ghost use mathlib.Core.Bool.{not};
 ghost use Prim.Native.Nat.{_≤_, _<_, min};
 ghost use lib.Dec.{eqb};
-ghost use lib.ListN.{length, getD};
-ghost use Rattle.lists.specs.Keep.{keep};
-ghost use Rattle.lists.specs.Table.{upTo, Tabulates};
+ghost use lib.ListN.{length};
+ghost use Rattle.lists.specs.Table.{Tabulates};
 ghost use Rattle.jobs.specs.Job.{jobOf, variableCount, equationCount};
 ghost use Rattle.jobs.specs.Lawful.{Lawful};
 ghost use Rattle.solver.specs.Labels.{Apart, Labelled, Lowest, Merges, Labels};
 ghost use Rattle.solver.specs.StateArrays.{labelIn};
-ghost use Rattle.families.specs.ModelFindings.{componentBy};
+ghost use Rattle.families.specs.ModelFindings.{leadsBy, componentBy};
 use jobs::Equation;
 
 // Does an equation between variables of these components join two sets that earlier rows left separate?
@@ -76,7 +75,7 @@ fn renamed(labels: [u16; 256], high: u16, low: u16, n: usize) -> [u16; 256]
     out
 }
 
-// The lowest variable that the m equations of a job join to each of its n variables.
+/// The lowest variable that the m equations of a job join to each of its n variables.
 pub fn lowest(job: &[u8], n: usize, m: usize) -> [u16; 256]
     requires { ⌜ Lawful (now job) ⌝ }
     requires { ⌜ n ≡ variableCount (now job) ⌝ }
@@ -99,10 +98,10 @@ pub fn lowest(job: &[u8], n: usize, m: usize) -> [u16; 256]
     labels
 }
 
-// How many components n variables are in: 01's g.
+/// How many components n variables are in: 01's g.
 pub fn count(labels: [u16; 256], n: usize) -> usize
     requires { ⌜ n ≤ 256 ⌝ }
-    ensures { λ g. ⌜ g ≡ length (keep (λ i. eqb (getD labels i 0) i) (upTo n)) ⌝ }
+    ensures { λ g. ⌜ g ≡ length (leadsBy (labelIn labels) n) ⌝ }
 {
     let mut g: usize = 0;
     let mut v: usize = 0;
@@ -115,7 +114,7 @@ pub fn count(labels: [u16; 256], n: usize) -> usize
     g
 }
 
-// The number of the group of each of n variables: groups are numbered in the order of their lowest variables.
+/// The number of the component of each of n variables: they are numbered in the order of their lowest variables.
 pub fn numbers(labels: [u16; 256], n: usize) -> [u16; 256]
     requires { ⌜ n ≤ 256 ⌝ }
     requires { ⌜ Lowest labels n ⌝ }

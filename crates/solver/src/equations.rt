@@ -29,7 +29,7 @@ pub enum Kept {
     At(Indices),
 }
 
-// The families of a job with these bounds, after all of its m equations.
+/// The families of a job with these bounds, after all of its m equations.
 pub fn families(job: &[u8], bounds: [Bounds; 256], n: usize, m: usize) -> State
     requires { ⌜ Lawful (now job) ⌝ }
     requires { ⌜ n ≡ variableCount (now job) ⌝ }

@@ -10,6 +10,7 @@ use borrow.Author.Tests.{eq-eqb, ne-eqb}
 use lib.Dec.{eqb}
 use lib.ListN.{getD}
 use Rattle.lists.proofs.Counting.{left, left-all, left-yes, left-no, left-none}
+use Rattle.families.specs.ModelFindings.{leadsBy}
 use Rattle.solver.proofs.components.count.Statement.{statement}
 use Rattle.solver.proofs.components.count.Tie as tie
 
@@ -56,6 +57,7 @@ loop-again c =
     (c .if1 .came)
 
 returns : tie.Need-returns Inv-loop μ-loop
+unfolding leadsBy
 returns c =
     let s = c .before .before in
     let l = c .before .loop in
