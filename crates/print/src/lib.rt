@@ -16,3 +16,9 @@ pub fn number(x: i64) {
 pub fn count(n: u64) {
     io::print_decimal(STDOUT_FILENO, n);
 }
+
+/// A count, and a text before it.
+pub fn counted(before: &[u8], n: u64) {
+    text(before);
+    count(n);
+}

@@ -1,7 +1,7 @@
 //! The job of some numbers: how many variables and equations it has; how many of its bytes there are; and for each change of a job without
 //! a fault a place, how many bytes it has there, and the number that they hold.
 
-use crate::text::Numbers;
+use input::Numbers;
 
 /// As long as a job of 257 variables and 1,025 equations, one of each more than are allowed.
 pub type Buffer = [u8; 23608];
@@ -40,7 +40,7 @@ const MARK: u64 = 827607366;
 pub(crate) fn write(b: &mut Buffer, t: Numbers) {
     lawful(b, (t.get(0) % 65536) as u16, (t.get(1) % 65536) as u16);
     let mut i: usize = 3;
-    while i < 40 {
+    while i < 64 {
         if i < t.count() {
             let at = (t.get(i) % 65536) as u32;
             put(b, at, (t.get(i + 1) % 9) as u32, t.get(i + 2));

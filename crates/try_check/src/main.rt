@@ -2,15 +2,15 @@
 //! is, with the check's answer in the place of each job. The expected output is not taken from the program: it was worked out from
 //! document 01.
 
-// numbers written as text
-mod text;
+use input::Text;
+
 // the job of some numbers
 mod job;
 // what is printed
 mod report;
 
 fn main() {
-    let mut text = [0u8; 16384];
-    let length = report::read(&mut text);
+    let mut text: Text = [0; 16384];
+    let length = input::read(&mut text);
     report::run(&text[..length]);
 }

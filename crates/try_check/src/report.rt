@@ -1,22 +1,13 @@
 //! The text, with the answer for each job that stands in braces.
 
-ghost use Rattle.io.specs.Counts.{Counts};
 use crate::job;
 use crate::job::Buffer;
-use crate::text;
-use crate::text::Numbers;
+use input::Numbers;
 use jobs::Checked;
-use libc::STDIN_FILENO;
-
-pub(crate) fn read(text: &mut [u8; 16384]) -> usize
-    ensures { λ r. ⌜ Counts r (now (text .exit)) ⌝ }
-{
-    io::read_full(STDIN_FILENO, text)
-}
 
 pub(crate) fn run(text: &[u8]) {
     let mut b: Buffer = [0; 23608];
-    let mut read = text::none();
+    let mut read = input::none();
     let mut from: usize = 0;
     let mut i: usize = 0;
     while i < text.len() {
@@ -24,7 +15,7 @@ pub(crate) fn run(text: &[u8]) {
         read = read.next(x);
         if x == b'{' {
             show(&text[0..i], from);
-            read = text::none();
+            read = input::none();
         }
         i += 1;
         if x == b'}' {
@@ -59,8 +50,7 @@ fn ask(b: &[u8], length: u64) {
             Checked::Accepted => print::text(b"accepted"),
             Checked::Refused(r) => {
                 print::count(r.number() as u64);
-                print::text(b" row ");
-                print::count(r.row() as u64);
+                print::counted(b" row ", r.row() as u64);
             }
         }
     }

@@ -15,8 +15,7 @@ fn main() {
 // The pairs that disagree stand on lines above this one.
 fn report(kind: &[u8], agree: u64) {
     print::text(kind);
-    print::text(b" pairs ");
-    print::count(agree);
+    print::counted(b" pairs ", agree);
     print::text(b" agree\n");
 }
 
@@ -51,10 +50,8 @@ fn show(n: i64, d: i64) {
             print::number(q);
         }
         Division::Refused(r) => {
-            print::text(b" refused ");
-            print::number(r.number() as i64);
-            print::text(b" row ");
-            print::number(r.row() as i64);
+            print::counted(b" refused ", r.number() as u64);
+            print::counted(b" row ", r.row() as u64);
         }
     }
     print::text(b"\n");

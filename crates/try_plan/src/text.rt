@@ -6,88 +6,38 @@
 //! behind a bar what is expected (`line`). What is read are whole numbers alone: F stands for the two ends of the full range, and a c
 //! with no number before it for 1.
 
-/// What is read of a line: numbers in two's complement, for each mark how many stand before it, and the number that is open.
+use input::Numbers;
+
+/// What is read of a line: its numbers, and for each mark how many stand before it.
 pub struct Line {
-    numbers: [u64; 64],
-    many: usize,
+    numbers: Numbers,
     marks: [usize; 128],
-    open: bool,
-    negative: bool,
-    size: u64,
 }
 
 // The place of a mark that is not there.
 const NOWHERE: usize = 255;
 
+// The ends of the full range.
+const LOWEST: u64 = 18446744072709551616;
+
+const HIGHEST: u64 = 1000000000;
+
 pub(crate) fn start() -> Line {
     Line {
-        numbers: [0; 64],
-        many: 0,
+        numbers: input::none(),
         marks: [NOWHERE; 128],
-        open: false,
-        negative: false,
-        size: 0,
     }
 }
 
 impl Line {
-    /// After one byte more.
+    /// After one byte more. Digits count as marks that nothing asks for.
     pub(crate) fn next(self, x: u8) -> Line {
-        if b'0' <= x {
-            if x <= b'9' {
-                return self.digit(x - b'0');
-            }
-        }
-        if x == b'c' {
-            if !self.open {
-                return self.digit(1).closed();
-            }
-        }
-        if x == b'F' {
-            return self.with(18446744072709551616).with(1000000000);
-        }
-        self.closed().mark(x)
-    }
-
-    // Numbers have 17 digits at most.
-    fn digit(self, x: u8) -> Line {
+        let numbers = spelt(self.numbers, x).next(x);
         let mut r = self;
-        r.open = true;
-        r.size = self.size % 100000000000000000 * 10 + x as u64;
-        r
-    }
-
-    fn mark(self, x: u8) -> Line {
-        let mut r = self;
-        r.negative = x == b'-';
+        r.numbers = numbers;
         if x < 128 {
-            r.marks[x as usize] = self.many;
+            r.marks[x as usize] = numbers.count();
         }
-        r
-    }
-
-    // With the open number among the others.
-    fn closed(self) -> Line {
-        if !self.open {
-            return self;
-        }
-        if self.negative {
-            return self.with(std::num::wrapping_sub_u64(0, self.size));
-        }
-        self.with(self.size)
-    }
-
-    // With one number more; past the last place it is left out.
-    fn with(self, x: u64) -> Line {
-        let mut r = self;
-        let i = self.many;
-        if i < 64 {
-            r.numbers[i] = x;
-            r.many = i + 1;
-        }
-        r.open = false;
-        r.negative = false;
-        r.size = 0;
         r
     }
 
@@ -98,7 +48,8 @@ impl Line {
                 return self.marks[x as usize];
             }
         }
-        self.many
+        let numbers = self.numbers;
+        numbers.count()
     }
 
     /// Is the mark there?
@@ -126,7 +77,8 @@ impl Line {
 
     /// Number i, and number i behind a mark; 0 where there is none.
     pub(crate) fn get(self, i: usize) -> u64 {
-        if i < 64 { self.numbers[i] } else { 0 }
+        let numbers = self.numbers;
+        numbers.get(i)
     }
 
     pub(crate) fn after(self, x: u8, i: usize) -> u64 {
@@ -137,4 +89,17 @@ impl Line {
         }
         0
     }
+}
+
+// With the numbers that a letter stands for.
+fn spelt(numbers: Numbers, x: u8) -> Numbers {
+    if x == b'F' {
+        return numbers.with(LOWEST).with(HIGHEST);
+    }
+    if x == b'c' {
+        if !numbers.is_open() {
+            return numbers.next(b'1');
+        }
+    }
+    numbers
 }

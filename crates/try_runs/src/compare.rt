@@ -3,7 +3,7 @@
 
 use crate::search;
 use crate::task;
-use crate::task::Numbers;
+use crate::task::RunBits;
 use crate::task::Task;
 use runs::Working;
 
@@ -25,16 +25,12 @@ const EQUATIONS: u64 = 1539;
 pub(crate) fn all(working: &[u8], cases: &[u8], carry: bool) {
     let t = tried(carry, if carry { EQUATIONS } else { RUNS });
     print::text(working);
-    print::text(cases);
-    print::count(t.agree);
+    print::counted(cases, t.agree);
     print::text(b" agree\n");
     print::text(working);
-    print::text(b" results ");
-    print::count(t.empty);
-    print::text(b" empty ");
-    print::count(t.single);
-    print::text(b" single ");
-    print::count(t.longer);
+    print::counted(b" results ", t.empty);
+    print::counted(b" empty ", t.single);
+    print::counted(b" single ", t.longer);
     print::text(b" longer\n");
 }
 
@@ -72,7 +68,7 @@ impl Tally {
         t
     }
 
-    fn with(self, task: Task, r: Numbers) -> Tally {
+    fn with(self, task: Task, r: RunBits) -> Tally {
         let mut t = self;
         let expected = search::result(task, r);
         let many = expected.many;
@@ -95,7 +91,7 @@ impl Tally {
 }
 
 // If not, the answer is printed, and what is expected.
-fn agrees(answer: Working, expected: Numbers) -> bool {
+fn agrees(answer: Working, expected: RunBits) -> bool {
     match answer {
         Working::Gives(r) => {
             if task::bits(r.first) == expected.first {
@@ -114,8 +110,8 @@ fn agrees(answer: Working, expected: Numbers) -> bool {
 }
 
 // First number -6..=6, step 0..=12, 0 to 13 numbers.
-fn run_at(code: u64) -> Numbers {
-    Numbers {
+fn run_at(code: u64) -> RunBits {
+    RunBits {
         first: std::num::wrapping_sub_u64(code % 13, 6),
         step: code / 13 % 13,
         many: code / 169 % 14,
@@ -145,7 +141,7 @@ fn is_task(t: Task) -> bool {
     if t.carry {
         return if t.a == 0 { false } else { t.b != 0 };
     }
-    is_run(Numbers {
+    is_run(RunBits {
         first: t.a,
         step: t.b,
         many: t.c,
@@ -153,7 +149,7 @@ fn is_task(t: Task) -> bool {
 }
 
 // Is the run in its one form, with no number above 6?
-fn is_run(r: Numbers) -> bool {
+fn is_run(r: RunBits) -> bool {
     if r.many == 0 {
         return if r.first == 0 { r.step == 0 } else { false };
     }

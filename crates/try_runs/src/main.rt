@@ -3,8 +3,6 @@
 //! program: a comment above each group of questions says how its answers were worked out. The results of the search are counted too,
 //! and the expected counts come from sets of numbers, so that the output shows that the search itself is right.
 
-// numbers written as text
-mod text;
 // a working with its arguments, and its answer
 mod task;
 // the questions

@@ -5,32 +5,23 @@
 //!
 //! Each is printed with its answer. Lines that begin with # are comments.
 
-ghost use Rattle.io.specs.Counts.{Counts};
 use crate::task;
 use crate::task::Task;
-use crate::text;
-use libc::STDIN_FILENO;
+use input::Numbers;
+use input::Text;
 use runs::Run;
 use runs::Working;
 
-type Text = [u8; 16384];
-
 pub(crate) fn all() {
     let mut text: Text = [0; 16384];
-    let length = read(&mut text);
+    let length = input::read(&mut text);
     run(&text[..length]);
     print::text(b"full range");
     task::show(Working::Gives(Run::full()));
 }
 
-fn read(text: &mut Text) -> usize
-    ensures { λ r. ⌜ Counts r (now (text .exit)) ⌝ }
-{
-    io::read_full(STDIN_FILENO, text)
-}
-
 fn run(lines: &[u8]) {
-    let mut read = text::none();
+    let mut read = input::none();
     let mut from: usize = 0;
     let mut i: usize = 0;
     while i < lines.len() {
@@ -39,7 +30,7 @@ fn run(lines: &[u8]) {
         read = read.next(x);
         if x == b'\n' {
             line(&lines[0..i], from, read);
-            read = text::none();
+            read = input::none();
             from = next;
         }
         i = next;
@@ -47,7 +38,7 @@ fn run(lines: &[u8]) {
 }
 
 // The line from a place to the end of the text.
-fn line(lines: &[u8], from: usize, read: text::Numbers) {
+fn line(lines: &[u8], from: usize, read: Numbers) {
     if lines.len() <= from {
         return;
     }
@@ -59,14 +50,14 @@ fn line(lines: &[u8], from: usize, read: text::Numbers) {
     answer(kind == b'c', read);
 }
 
-fn answer(carry: bool, read: text::Numbers) {
+fn answer(carry: bool, read: Numbers) {
     let t = Task {
         carry: carry,
         a: read.get(0),
         b: read.get(1),
         c: read.get(2),
     };
-    let r = task::Numbers {
+    let r = task::RunBits {
         first: read.get(3),
         step: read.get(4),
         many: read.get(5),

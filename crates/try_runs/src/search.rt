@@ -3,7 +3,7 @@
 //! No answer lies further out. A meeting of runs from -6 to 6 stays there; where a·p + b·q = c with a and b from 1 to 4 in size, c to 9
 //! and q to 6, p is no larger in size than a·p, and that no larger than 9 + 4·6.
 
-use crate::task::Numbers;
+use crate::task::RunBits;
 use crate::task::Task;
 
 /// The run that was found so far, and its last number.
@@ -15,7 +15,7 @@ struct Found {
 }
 
 /// The run of all answers.
-pub(crate) fn result(t: Task, r: Numbers) -> Numbers {
+pub(crate) fn result(t: Task, r: RunBits) -> RunBits {
     let mut f = Found {
         first: 0,
         step: 0,
@@ -30,7 +30,7 @@ pub(crate) fn result(t: Task, r: Numbers) -> Numbers {
         }
         i += 1;
     }
-    Numbers {
+    RunBits {
         first: f.first,
         step: f.step,
         many: f.many,
@@ -62,9 +62,9 @@ impl Found {
     }
 }
 
-fn is_answer(t: Task, r: Numbers, x: u64) -> bool {
+fn is_answer(t: Task, r: RunBits, x: u64) -> bool {
     if !t.carry {
-        let other = Numbers {
+        let other = RunBits {
             first: t.a,
             step: t.b,
             many: t.c,
@@ -77,7 +77,7 @@ fn is_answer(t: Task, r: Numbers, x: u64) -> bool {
 }
 
 // Has x a partner among the numbers of r: a q with which the equation holds, or itself?
-fn has_partner(t: Task, r: Numbers, x: u64) -> bool {
+fn has_partner(t: Task, r: RunBits, x: u64) -> bool {
     let mut q = r.first;
     let mut k: u64 = 0;
     while k < r.many {

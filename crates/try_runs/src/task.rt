@@ -5,7 +5,7 @@ use runs::Run;
 use runs::Working;
 
 /// A run.
-pub struct Numbers {
+pub struct RunBits {
     pub first: u64,
     pub step: u64,
     pub many: u64,
@@ -19,7 +19,7 @@ pub struct Task {
     pub c: u64,
 }
 
-pub(crate) fn ask(t: Task, r: Numbers) -> Working {
+pub(crate) fn ask(t: Task, r: RunBits) -> Working {
     let q = run_of(r.first, r.step, r.many);
     if t.carry {
         let e = Equation {
@@ -63,14 +63,11 @@ pub(crate) fn show(w: Working) {
             print::number(r.first);
             print::text(b" ");
             print::number(r.step);
-            print::text(b" ");
-            print::count(r.many as u64);
+            print::counted(b" ", r.many as u64);
         }
         Working::Refused(r) => {
-            print::text(b" refused ");
-            print::count(r.number() as u64);
-            print::text(b" row ");
-            print::count(r.row() as u64);
+            print::counted(b" refused ", r.number() as u64);
+            print::counted(b" row ", r.row() as u64);
         }
     }
     print::text(b"\n");

@@ -7,7 +7,7 @@ use Rattle.try_check.proofs.job.write.Tie as tie
 pub write-spec : {M : Type 1} → statement M
 write-spec =
     tie.close
-    (tie.spec (λ b₀ t i₀ b i. i ≤ 42) (λ b₀ t i₀ b i. 42 - i) (search needs) (search needs) (search needs)
+    (tie.spec (λ b₀ t i₀ b i. i ≤ 66) (λ b₀ t i₀ b i. 66 - i) (search needs) (search needs) (search needs)
     (search needs) (search needs) (search needs) (search needs) (search needs) (search needs) (search needs)
     (search needs) (search needs) (search needs) (search needs) (search needs) (search needs) (search needs)
     (search needs) (search needs))
