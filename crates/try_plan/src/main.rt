@@ -19,10 +19,17 @@ mod trial;
 mod search;
 // pseudo-random jobs
 mod random;
+// how many came out as expected
+mod tally;
 // the table of jobs
 mod table;
+// what kinds of jobs there are
+mod kinds;
+// the pseudo-random jobs against the plain search
+mod sweep;
 
 fn main() {
     let mut b: format::Buffer = [0; 32896];
     table::all(&mut b);
+    sweep::all(&mut b);
 }

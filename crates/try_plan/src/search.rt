@@ -88,8 +88,8 @@ fn joined(b: &Buffer, k: u8, labels: Labels) -> Labels {
     next
 }
 
-// Where row k of the equations begins.
-fn row(b: &Buffer, k: u8) -> usize
+/// Where row k of the equations begins.
+pub(crate) fn row(b: &Buffer, k: u8) -> usize
     ensures { λ r. ⌜ r ≤ 10000 ⌝ }
 {
     24 + 12 * byte(b, 4) as usize + 20 * k as usize
@@ -139,8 +139,8 @@ fn has(b: &Buffer, p: Part, i: u8) -> bool {
     }
 }
 
-// How many numbers a variable has within its bounds.
-fn width(b: &Buffer, i: u8) -> u64 {
+/// How many numbers a variable has within its bounds.
+pub(crate) fn width(b: &Buffer, i: u8) -> u64 {
     let low = byte(b, 24 + 12 * i as usize);
     let high = byte(b, 28 + 12 * i as usize);
     if is_less(wide(high), wide(low)) {
@@ -237,7 +237,7 @@ fn worth(b: &Buffer, p: Part, list: u64) -> u64 {
 // ---- all lists in which the equations of a group hold, in their order: the number at the lowest variable decides first
 
 /// How many they are; the first, the second if there is one, and the last; whether it is as far from each to the next; the first of the
-/// best, and what it is worth; and the place of the one that was given beforehand.
+/// best, what it is worth, and how many are worth as much; and the place of the one that was given beforehand.
 struct Found {
     many: u32,
     first: u64,
@@ -246,6 +246,7 @@ struct Found {
     even: bool,
     best: u64,
     worth: u64,
+    equals: u32,
     place: u64,
 }
 
@@ -261,6 +262,7 @@ fn all(b: &Buffer, p: Part) -> Found {
         even: true,
         best: 0,
         worth: 0,
+        equals: 0,
         place: NONE,
     };
     let mut code: u64 = 0;
@@ -279,14 +281,18 @@ fn all(b: &Buffer, p: Part) -> Found {
 
 impl Found {
     fn ranked(self, list: u64, worth: u64) -> Found {
+        let mut f = self;
         if 0 < self.many {
+            if self.worth == worth {
+                f.equals = std::num::wrapping_add_u32(self.equals, 1);
+            }
             if !is_less(self.worth, worth) {
-                return self;
+                return f;
             }
         }
-        let mut f = self;
         f.best = list;
         f.worth = worth;
+        f.equals = 1;
         f
     }
 
@@ -325,6 +331,11 @@ fn whole(b: &Buffer) -> Found {
             others: 0,
         },
     )
+}
+
+/// How many of these lists are worth most.
+pub(crate) fn best_lists(b: &Buffer) -> u32 {
+    whole(b).equals
 }
 
 /// What is expected of the job; writes the sheet.

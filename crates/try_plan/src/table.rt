@@ -1,70 +1,27 @@
 //! The table of jobs, as text on standard input: a family's name, then its jobs, one to a line. Lines that begin with # are comments.
 
-ghost use Rattle.io.specs.Counts.{Counts};
 use crate::answer;
 use crate::answer::Expected;
 use crate::format;
 use crate::format::Buffer;
 use crate::format::Row;
 use crate::line;
-use crate::random;
 use crate::search;
+use crate::tally;
+use crate::tally::Tally;
 use crate::text;
 use crate::text::Line;
 use crate::trial;
-use libc::STDIN_FILENO;
-
-/// How many jobs, and how many of them came out other than expected.
-struct Tally {
-    jobs: u64,
-    differ: u64,
-}
-
-fn nothing() -> Tally {
-    Tally { jobs: 0, differ: 0 }
-}
-
-impl Tally {
-    // With one job more. If it differs, its place among the family's is printed.
-    fn judge(self, right: bool) -> Tally {
-        let mut t = self;
-        t.jobs = std::num::wrapping_add_u64(self.jobs, 1);
-        if !right {
-            t.differ = std::num::wrapping_add_u64(self.differ, 1);
-            print::text(b" differs at ");
-            print::count(self.jobs);
-        }
-        t
-    }
-
-    // The rest of a family's line, if it has any jobs.
-    fn report(self) {
-        if 0 < self.jobs {
-            print::text(b" jobs ");
-            print::count(self.jobs);
-            print::text(b" differ ");
-            print::count(self.differ);
-            print::text(b"\n");
-        }
-    }
-}
-
-type Text = [u8; 16384];
+use input::Text;
 
 pub(crate) fn all(b: &mut Buffer) {
     let mut text: Text = [0; 16384];
-    let length = read(&mut text);
+    let length = input::read(&mut text);
     run(b, &text[..length]);
 }
 
-fn read(text: &mut Text) -> usize
-    ensures { λ r. ⌜ Counts r (now (text .exit)) ⌝ }
-{
-    io::read_full(STDIN_FILENO, text)
-}
-
 fn run(b: &mut Buffer, lines: &[u8]) {
-    let mut t = nothing();
+    let mut t = tally::nothing();
     let mut read = text::start();
     let mut from: usize = 0;
     let mut i: usize = 0;
@@ -95,7 +52,7 @@ fn line(t: Tally, b: &mut Buffer, lines: &[u8], from: usize, read: Line) -> Tall
     }
     t.report();
     print::text(&lines[from..]);
-    nothing()
+    tally::nothing()
 }
 
 // One number behind the bar: so many jobs, against the plain search.
@@ -103,7 +60,7 @@ fn job(t: Tally, b: &mut Buffer, read: Line) -> Tally {
     let length = line::write(b, read);
     let many = read.expected();
     if many == 1 {
-        return forms(t, b, read);
+        return forms(t, b, read, length);
     }
     let x = expect(b, read, many);
     t.judge(trial::is_right(b, length, x))
@@ -126,12 +83,12 @@ fn expect(b: &mut Buffer, read: Line, many: usize) -> Expected {
     search::expect(b)
 }
 
-fn forms(t: Tally, b: &mut Buffer, read: Line) -> Tally {
+fn forms(t: Tally, b: &mut Buffer, read: Line, length: u32) -> Tally {
     let end = read.after(b'|', 0);
     let mut t = t;
     let mut code: u64 = 0;
     while code < end {
-        let length = write(b, read, code);
+        write(b, read, code);
         let x = search::expect(b);
         t = t.judge(trial::is_right(b, length, x));
         code += 1;
@@ -139,17 +96,11 @@ fn forms(t: Tally, b: &mut Buffer, read: Line) -> Tally {
     t
 }
 
-// With a question mark a pseudo-random job; otherwise the job of the line, which stands in the buffer, with a form of its last row. What
-// is given is its length.
-fn write(b: &mut Buffer, read: Line, code: u64) -> u32 {
-    if read.has(b'?') {
-        return random::write(b, code);
-    }
+// Puts a form of its last row in the job of the line, which stands in the buffer.
+fn write(b: &mut Buffer, read: Line, code: u64) {
     let n = line::variable_count(read);
-    let m = line::equation_count(read);
-    let k = std::num::wrapping_sub_u16(m, 1);
+    let k = std::num::wrapping_sub_u16(line::equation_count(read), 1);
     format::equation(b, n, k, form(code, line::row(read, k)));
-    24 + 12 * n as u32 + 20 * m as u32
 }
 
 // With either variable on the left, a and b of both signs and 1 to 3 in size, and c from 0 out to both sides, 72 forms for each.

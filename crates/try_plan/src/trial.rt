@@ -42,8 +42,7 @@ fn is_left(b: &Buffer, length: u32, size: u32, x: Expected, area: &mut Buffer) -
     };
     let at = first_difference(b, area, written, end);
     if at < end {
-        print::text(b" byte ");
-        print::count(at as u64);
+        print::counted(b" byte ", at as u64);
         return false;
     }
     true
