@@ -47,17 +47,8 @@ loop-holds c =
     let e : s .width - s .width ≡ 0 = omega arith in
     record { inside = omega arith; is = rw e (unsigned-none (s .s .now) (s .at + s .width)); below = rw e (omega arith) }
 
-sub-i : tie.Need-sub-i Inv-loop μ-loop
-sub-i c = omega arith
-
 mul-x : tie.Need-mul-x Inv-loop μ-loop
 mul-x c = record { fits = omega (arith, fits (c .before .loop .inv) (omega arith) (c .before .before .pre .1) {b = 0} (omega arith)) }
-
-add-x : tie.Need-add-x Inv-loop μ-loop
-add-x c = omega arith
-
-shared-slice-read-x : tie.Need-shared-slice-read-x Inv-loop μ-loop
-shared-slice-read-x c = omega arith
 
 byte : (c : tie.After-shared-slice-known Inv-loop μ-loop) → let s = c .before .before .before .args in getD (now (s .s)) (s .at + (c .before .before .loop .i - 1)) 0 < 256
 byte c = omega (arith, c .shared-slice-known .given (c .before .before .before .args .at + (c .before .before .loop .i - 1)))
@@ -67,9 +58,6 @@ cast-x c = omega (arith, byte c)
 
 add-x-2 : tie.Need-add-x-2 Inv-loop μ-loop
 add-x-2 c = record { fits = fits (c .before .before .loop .inv) (omega arith) (c .before .before .before .pre .1) (byte c) }
-
-loop-less : tie.Need-loop-less Inv-loop μ-loop
-loop-less c = omega arith
 
 loop-again : tie.Need-loop-again Inv-loop μ-loop
 loop-again c = next (c .before .before .loop .inv) (omega arith) (c .before .before .before .pre .1) (byte c)
@@ -83,4 +71,4 @@ returns c =
     (rw (e, p) at (l .inv .is), rw e at (l .inv .below))
 
 pub get-spec : {M : Type 1} → statement M
-get-spec = tie.close (tie.spec Inv-loop μ-loop loop-holds sub-i mul-x add-x shared-slice-read-x cast-x add-x-2 loop-less loop-again returns)
+get-spec = tie.close (tie.spec Inv-loop μ-loop loop-holds (λ c. omega arith) mul-x (λ c. omega arith) (λ c. omega arith) cast-x add-x-2 (λ c. omega arith) loop-again returns)

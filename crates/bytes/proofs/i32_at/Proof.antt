@@ -6,14 +6,8 @@ use borrow.Author.Needs.{needs}
 use Rattle.bytes.proofs.i32_at.Statement.{statement}
 use Rattle.bytes.proofs.i32_at.Tie as tie
 
-get-requires : tie.Need-get-requires
-get-requires c κs = search needs
-
-signed-requires : tie.Need-signed-requires
-signed-requires c κs = search needs
-
 returns : tie.Need-returns
 returns c = held-is (c .signed .ok) (c .signed .ensures .same 4 refl ∙ ap (twosComplement 4) (c .before .get .ensures .0))
 
 pub i32-at-spec : {M : Type 1} → statement M
-i32-at-spec = tie.close (tie.spec get-requires signed-requires returns)
+i32-at-spec = tie.close (tie.spec (search needs) (search needs) returns)

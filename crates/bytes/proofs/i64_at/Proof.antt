@@ -6,14 +6,8 @@ use borrow.Author.Needs.{needs}
 use Rattle.bytes.proofs.i64_at.Statement.{statement}
 use Rattle.bytes.proofs.i64_at.Tie as tie
 
-get-requires : tie.Need-get-requires
-get-requires c κs = search needs
-
-signed-requires : tie.Need-signed-requires
-signed-requires c κs = search needs
-
 returns : tie.Need-returns
 returns c = held-is (c .signed .ok) (c .signed .ensures .same 8 refl ∙ ap (twosComplement 8) (c .before .get .ensures .0))
 
 pub i64-at-spec : {M : Type 1} → statement M
-i64-at-spec = tie.close (tie.spec get-requires signed-requires returns)
+i64-at-spec = tie.close (tie.spec (search needs) (search needs) returns)

@@ -46,23 +46,11 @@ abbrev μ-loop : tie.MeasureT-loop
 loop-holds : tie.Need-loop-holds Inv-loop μ-loop
 loop-holds c = (omega arith, (refl, start (c .args .at) (c .args .x) (c .args .area .now) (omega (arith, c .pre))))
 
-cast-area : tie.Need-cast-area Inv-loop μ-loop
-cast-area c = search needs
-
-add-area : tie.Need-add-area Inv-loop μ-loop
-add-area c = search needs
-
 slice-write-area : tie.Need-slice-write-area Inv-loop μ-loop
 slice-write-area c =
     let l = c .before .loop in
     let s = c .before .before in
     inside (s .args .area .now) (l .area) (s .args .at) (l .i) (s .args .x) (l .rest) (omega (arith, s .pre)) (l .inv .1 .0) (l .inv .1 .1)
-
-add-i : tie.Need-add-i Inv-loop μ-loop
-add-i c = search needs
-
-loop-less : tie.Need-loop-less Inv-loop μ-loop
-loop-less c = omega arith
 
 loop-again : tie.Need-loop-again Inv-loop μ-loop
 loop-again c =
@@ -89,15 +77,5 @@ returns c =
 pub put-spec : {M : Type 1} → statement M
 put-spec =
     tie.close
-    (tie.spec
-    Inv-loop
-    μ-loop
-    loop-holds
-    cast-area
-    add-area
-    slice-write-area
-    add-i
-    loop-less
-    loop-again
-    same-length
-    returns)
+    (tie.spec Inv-loop μ-loop loop-holds (search needs) (search needs) slice-write-area (search needs)
+    (λ c. omega arith) loop-again same-length returns)

@@ -19,12 +19,6 @@ widened {x} f w = subst (Within 4294967295) (sym (toZ-ofZ f)) record { size = om
 residue-requires : tie.Need-residue-requires
 residue-requires c κs = widened (c .before .before .fits .x) (c .before .before .pre .1)
 
-put-requires : tie.Need-put-requires
-put-requires c κs = search needs
-
-same-length : tie.Need-same-length
-same-length c = search needs
-
 returns : tie.Need-returns
 returns c =
     let a = c .before .before in
@@ -33,4 +27,4 @@ returns c =
     over-same (s .args .at) (s .args .area .now) _ (signed-bytes 4 4294967295 (r .residue .result) refl (s .fits .x) (r .residue .ensures)) (a .put .ensures)
 
 pub put-i32-spec : {M : Type 1} → statement M
-put-i32-spec = tie.close (tie.spec residue-requires put-requires same-length returns)
+put-i32-spec = tie.close (tie.spec residue-requires (search needs) (search needs) returns)

@@ -18,12 +18,6 @@ widened {x} f = lin (x ∷ []) f (search signed depth 20) (omega arith)
 residue-requires : tie.Need-residue-requires
 residue-requires c κs = widened (c .before .before .fits .x)
 
-put-requires : tie.Need-put-requires
-put-requires c κs = search needs
-
-same-length : tie.Need-same-length
-same-length c = search needs
-
 returns : tie.Need-returns
 returns c =
     let a = c .before .before in
@@ -32,4 +26,4 @@ returns c =
     over-same (s .args .at) (s .args .area .now) _ (signed-bytes 8 18446744073709551615 (r .residue .result) refl (s .fits .x) (r .residue .ensures)) (a .put .ensures)
 
 pub put-i64-spec : {M : Type 1} → statement M
-put-i64-spec = tie.close (tie.spec residue-requires put-requires same-length returns)
+put-i64-spec = tie.close (tie.spec residue-requires (search needs) (search needs) returns)

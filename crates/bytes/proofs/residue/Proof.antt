@@ -10,9 +10,6 @@ use Rattle.ints.proofs.Residues.{size-above, residue-below, residue-whole}
 use Rattle.bytes.proofs.residue.Statement.{statement}
 use Rattle.bytes.proofs.residue.Tie as tie
 
-size-requires : tie.Need-size-requires
-size-requires c κs = search needs
-
 sized : (c : tie.After-size) → c .size .result ≡ natAbs (c .before .args .x)
 sized c = c .size .ensures ∙ ap natAbs (toZ-ofZ (c .before .fits .x))
 
@@ -45,4 +42,4 @@ returns-2 c =
     record { same = λ k e. sized (c .before) ∙ residue-whole (s .args .x) (256 ^ k) h (omega (arith, e, s .pre .size)) }
 
 pub residue-spec : {M : Type 1} → statement M
-residue-spec = tie.close (tie.spec size-requires sub-result sub-result-2 returns returns-2)
+residue-spec = tie.close (tie.spec (search needs) sub-result sub-result-2 returns returns-2)

@@ -11,17 +11,8 @@ use borrow.Author.Needs.{needs}
 use Rattle.bytes.proofs.signed.Statement.{statement}
 use Rattle.bytes.proofs.signed.Tie as tie
 
-cast-result : tie.Need-cast-result
-cast-result c = search needs
-
 returns : tie.Need-returns
 returns c = let s = c .before .args in record { same = λ k e. cast (s .x) (omega arith) ∙ low-half (s .most) (s .x) k (omega arith) e }
-
-sub-result : tie.Need-sub-result
-sub-result c = search needs
-
-cast-result-2 : tie.Need-cast-result-2
-cast-result-2 c = search needs
 
 rest : (c : tie.Else1) → c .before .args .most - c .before .args .x < 9223372036854775808
 rest c = omega arith
@@ -40,4 +31,4 @@ returns-2 c =
 
 pub signed-spec : {M : Type 1} → statement M
 signed-spec =
-    tie.close (tie.spec cast-result returns sub-result cast-result-2 sub-result-2 returns-2)
+    tie.close (tie.spec (search needs) returns (search needs) (search needs) sub-result-2 returns-2)

@@ -10,9 +10,6 @@ use Rattle.ints.proofs.Signed.{told₂}
 use Rattle.ints.proofs.divide.Statement.{statement}
 use Rattle.ints.proofs.divide.Tie as tie
 
-in-limits-requires : tie.Need-in-limits-requires
-in-limits-requires c κs = search needs
-
 floor-div-requires : tie.Need-floor-div-requires
 floor-div-requires c κs =
     let s = c .before .before in
@@ -34,4 +31,4 @@ returns-2 c =
     rw outside
 
 pub divide-spec : {M : Type 1} → statement M
-divide-spec = tie.close (tie.spec in-limits-requires floor-div-requires returns returns-2)
+divide-spec = tie.close (tie.spec (search needs) floor-div-requires returns returns-2)

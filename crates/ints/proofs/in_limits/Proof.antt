@@ -9,12 +9,6 @@ use Rattle.ints.proofs.Signed.{bits-zero, told}
 use Rattle.ints.proofs.in_limits.Statement.{statement}
 use Rattle.ints.proofs.in_limits.Tie as tie
 
-is-within-requires : tie.Need-is-within-requires
-is-within-requires c κs = search needs
-
-is-within-requires-2 : tie.Need-is-within-requires-2
-is-within-requires-2 c κs = search needs
-
 returns : tie.Need-returns
 returns c =
     let s = c .before .before .before .before in
@@ -36,4 +30,4 @@ returns-3 c =
     rw n-out
 
 pub in-limits-spec : {M : Type 1} → statement M
-in-limits-spec = tie.close (tie.spec is-within-requires is-within-requires-2 returns returns-2 returns-3)
+in-limits-spec = tie.close (tie.spec (search needs) (search needs) returns returns-2 returns-3)

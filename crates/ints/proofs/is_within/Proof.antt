@@ -7,11 +7,8 @@ use mir.Facts.{toZ-ofZ}
 use Rattle.ints.proofs.is_within.Statement.{statement}
 use Rattle.ints.proofs.is_within.Tie as tie
 
-size-requires : tie.Need-size-requires
-size-requires c κs = search needs
-
 returns : tie.Need-returns
 returns c = ap (λ n. leb n (c .before .args .most)) (c .size .ensures ∙ ap natAbs (toZ-ofZ (c .before .fits .x)))
 
 pub is-within-spec : {M : Type 1} → statement M
-is-within-spec = tie.close (tie.spec size-requires returns)
+is-within-spec = tie.close (tie.spec (search needs) returns)

@@ -35,15 +35,6 @@ module _ (n d : ℤ) (f : SFits w64 n) (g : SFits w64 d) where
       let fits : SFits w64 (floorDiv n d) = lin (floorDiv n d ∷ []) (floor-within n d (h .not-zero) (h .dividend)) (search signed depth 20) (omega arith) in
       rw e (toZ-ofZ fits)
 
-divide-requires : tie.Need-divide-requires
-divide-requires c κs = search needs
-
-enum-known-q : tie.Need-enum-known-q
-enum-known-q c = search needs
-
-enum-told : tie.Need-enum-told
-enum-told c = search needs
-
 returns : tie.Need-returns
 returns c =
     let s = c .before .before .before .before in
@@ -58,4 +49,4 @@ returns-2 c =
     not-refused (s .args .n) (s .args .d) (s .fits .n) (s .fits .d) (s .pre) e
 
 pub quotient-spec : {M : Type 1} → statement M
-quotient-spec = tie.close (tie.spec divide-requires enum-known-q enum-told returns returns-2)
+quotient-spec = tie.close (tie.spec (search needs) (search needs) (search needs) returns returns-2)

@@ -43,9 +43,6 @@ module _ (c : lts.After-quotient (quotient-reads.Asked, quotient-reads.Learnt) r
   fits-p : SFits w64 (d *ℤ q)
   fits-p = lin ρ (sum & mod-within n d (c .before .pre .not-zero) (c .before .pre .divisor) & c .before .pre .dividend) (search signed depth 20) (omega arith)
 
-quotient-requires : tie.Need-quotient-requires
-quotient-requires c κs = search needs
-
 mul-result : tie.Need-mul-result
 mul-result c = rw (toZ-ofZ (c .before .fits .d), toZ-ofZ (fits-q c)) (fits-p c)
 
@@ -60,4 +57,4 @@ returns c =
     toZ-ofZ (sub-result c) ∙ ap₂ _-ℤ_ (toZ-ofZ (c .before .fits .n)) (toZ-ofZ (mul-result c) ∙ ap₂ _*ℤ_ (toZ-ofZ (c .before .fits .d)) (toZ-ofZ (fits-q c))) ∙ rest
 
 pub remainder-spec : {M : Type 1} → statement M
-remainder-spec = tie.close (tie.spec quotient-requires mul-result sub-result returns)
+remainder-spec = tie.close (tie.spec (λ c κs. search needs) mul-result sub-result returns)

@@ -58,8 +58,5 @@ cast-result-2 c =
 returns : tie.Need-returns
 returns c = rw (rest-is c) (one-less (x c) (below c))
 
-returns-2 : tie.Need-returns-2
-returns-2 c = search needs
-
 pub size-spec : {M : Type 1} → statement M
-size-spec = tie.close (tie.spec sub-result cast-result add-result cast-result-2 returns returns-2)
+size-spec = tie.close (tie.spec sub-result cast-result add-result cast-result-2 returns (λ c. search needs))

@@ -25,15 +25,6 @@ by-rows : (s : List ℕ) → firstOf (broken? noArea? s) headerChecks ≡ none �
 unfolding firstBroken checks
 by-rows s e = first-past (broken? noArea? s) headerChecks (rowChecks s ++ ShortArea ∷ []) e ∙ first-without (broken? noArea? s) (rowChecks s) ShortArea (λ h. h)
 
-check-requires : tie.Need-check-requires
-check-requires c κs = search needs
-
-enum-known-of-header : tie.Need-enum-known-of-header
-enum-known-of-header c = search needs
-
-enum-told : tie.Need-enum-told
-enum-told c = search needs
-
 check-rows-requires : tie.Need-check-rows-requires
 check-rows-requires c κs =
     let a = c .before .before in
@@ -62,4 +53,4 @@ returns-2 c =
 pub check-spec : {M : Type 1} → statement M
 check-spec =
     tie.close
-    (tie.spec check-requires enum-known-of-header enum-told check-rows-requires returns returns-2)
+    (tie.spec (search needs) (search needs) (search needs) check-rows-requires returns returns-2)

@@ -41,26 +41,11 @@ well-named d = let r = d .before .before .before in named (r .before .before .be
 loop-holds : tie.Need-loop-holds Inv-loop μ-loop
 loop-holds c = (omega arith, equations-start (now (c .before .args .job)) (c .before .args .m))
 
-read-requires : tie.Need-read-requires Inv-loop μ-loop
-read-requires c κs = search needs
-
 is-misnamed-requires : tie.Need-is-misnamed-requires Inv-loop μ-loop
 is-misnamed-requires c κs = tt
 
-cast-t9 : tie.Need-cast-t9 Inv-loop μ-loop
-cast-t9 c = omega arith
-
 in-limits-requires : tie.Need-in-limits-requires Inv-loop μ-loop
 in-limits-requires c κs = tt
-
-cast-t12 : tie.Need-cast-t12 Inv-loop μ-loop
-cast-t12 c = omega arith
-
-add-k : tie.Need-add-k Inv-loop μ-loop
-add-k c = omega arith
-
-loop-less : tie.Need-loop-less Inv-loop μ-loop
-loop-less c = omega arith
 
 loop-again : tie.Need-loop-again Inv-loop μ-loop
 loop-again c =
@@ -92,18 +77,5 @@ returns-3 c =
 pub check-equations-spec : {M : Type 1} → statement M
 check-equations-spec =
     tie.close
-    (tie.spec
-    Inv-loop
-    μ-loop
-    loop-holds
-    read-requires
-    is-misnamed-requires
-    cast-t9
-    in-limits-requires
-    cast-t12
-    add-k
-    loop-less
-    loop-again
-    returns
-    returns-2
-    returns-3)
+    (tie.spec Inv-loop μ-loop loop-holds (search needs) is-misnamed-requires (λ c. omega arith) in-limits-requires
+    (λ c. omega arith) (λ c. omega arith) (λ c. omega arith) loop-again returns returns-2 returns-3)

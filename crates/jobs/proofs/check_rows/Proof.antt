@@ -18,24 +18,6 @@ use borrow.Author.Needs.{needs}
 use Rattle.jobs.proofs.check_rows.Statement.{statement}
 use Rattle.jobs.proofs.check_rows.Tie as tie
 
-variable-count-requires : tie.Need-variable-count-requires
-variable-count-requires c κs = search needs
-
-equation-count-requires : tie.Need-equation-count-requires
-equation-count-requires c κs = search needs
-
-check-variables-requires : tie.Need-check-variables-requires
-check-variables-requires c κs = search needs
-
-enum-known-of-variables : tie.Need-enum-known-of-variables
-enum-known-of-variables c = search needs
-
-enum-told : tie.Need-enum-told
-enum-told c = search needs
-
-check-equations-requires : tie.Need-check-equations-requires
-check-equations-requires c κs = search needs
-
 -- the fault of the rows, from what is answered of the variables' rows, and then of the equations' rows
 module _ (s : List ℕ) (n m : ℕ) (n-is : n ≡ variableCount s) (m-is : m ≡ equationCount s) where
   abbrev first : List Reason → Option Reason
@@ -72,12 +54,5 @@ returns-2 c =
 pub check-rows-spec : {M : Type 1} → statement M
 check-rows-spec =
     tie.close
-    (tie.spec
-    variable-count-requires
-    equation-count-requires
-    check-variables-requires
-    enum-known-of-variables
-    enum-told
-    check-equations-requires
-    returns
+    (tie.spec (search needs) (search needs) (search needs) (search needs) (search needs) (search needs) returns
     returns-2)

@@ -24,18 +24,6 @@ use Rattle.planner.proofs.StateOfJob.{labels, members, counted, found, 
 use Rattle.planner.proofs.fitted.Statement.{statement}
 use Rattle.planner.proofs.fitted.Tie as tie
 
-variable-count-requires : tie.Need-variable-count-requires
-variable-count-requires c κs = search needs
-
-equation-count-requires : tie.Need-equation-count-requires
-equation-count-requires c κs = search needs
-
-lowest-requires : tie.Need-lowest-requires
-lowest-requires c κs = search needs
-
-count-requires : tie.Need-count-requires
-count-requires c κs = search needs
-
 -- with n, m and g in hand
 module _ (c : tie.After-count) where
   abbrev start : tie.Start
@@ -68,18 +56,12 @@ length-requires c κs = let n-small : n c ≤ 256 = omega (arith, n-is c, start 
 returns : tie.Need-returns
 returns c = let k = c .before .before in let (p, q) = too-short (job k) (start k .args .area .now) (start k .pre .1) (omega (arith, c .before .length .ensures, whole k, c .if1 .taken)) in (sym p, sym q)
 
-read-requires : tie.Need-read-requires
-read-requires c κs = search needs
-
 families-requires : tie.Need-families-requires
 families-requires c κs =
     let k = c .before .before .before .before .before in
     let z = start k .pre .0 in
     let r = c .before .before .read in
     (z, (n-is k, (m-is k, bounded (job k) (n k) (m k) (n-is k) (m-is k) (r .result .bounds) (r .ensures .0) z)))
-
-first-empty-requires : tie.Need-first-empty-requires
-first-empty-requires c κs = search needs
 
 -- with the families in hand
 module _ (c : tie.After-first-empty) where
@@ -114,12 +96,6 @@ module _ (c : tie.After-first-empty) where
   grouped : known .count .result ≡ length (leadsBy (labelIn (state .labels)) (n known))
   grouped = g-is known ∙ counted j lawful state are-families ∙ ap (λ k. length (leadsBy (labelIn (state .labels)) k)) (sym n-all)
 
-enum-known-empty : tie.Need-enum-known-empty
-enum-known-empty c = search needs
-
-enum-told : tie.Need-enum-told
-enum-told c = search needs
-
 written-requires : tie.Need-written-requires
 written-requires c κs =
     let e = c .before .before .before in
@@ -146,9 +122,6 @@ returns-2 c =
     let (p, q) = no-fit (job k) (start k .args .area .now) (start k .pre .1) (room e) l (found (j e) (lawful e) (state e) (are-families e) l (omega (arith, f .0, n-all e)) (f .1 .0) (f .1 .1)) in
     (sym p, sym q)
 
-same-length : tie.Need-same-length
-same-length c = search needs
-
 returns-3 : tie.Need-returns-3
 returns-3 c =
     let w = c .before .before in
@@ -164,19 +137,5 @@ returns-3 c =
 pub fitted-spec : {M : Type 1} → statement M
 fitted-spec =
     tie.close
-    (tie.spec
-    variable-count-requires
-    equation-count-requires
-    lowest-requires
-    count-requires
-    length-requires
-    returns
-    read-requires
-    families-requires
-    first-empty-requires
-    enum-known-empty
-    enum-told
-    written-requires
-    returns-2
-    same-length
-    returns-3)
+    (tie.spec (search needs) (search needs) (λ c κs. search needs) (search needs) length-requires returns (search needs)
+    families-requires (search needs) (search needs) (search needs) written-requires returns-2 (search needs) returns-3)

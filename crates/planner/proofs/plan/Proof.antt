@@ -23,15 +23,6 @@ module _ (s area : List ℕ) (v : Verdict) (after : List ℕ) (p : v ≡ verdict
   promised : (v ≡ verdict s area) × ((after ≡ sheet s area) × (TurnsAway s area v after × (GivesFits s area v after × CannotBeBettered s area v after)))
   promised = (p, (q, (of (TurnsAway s area) (turns-away s area), (of (GivesFits s area) (definitions-give-fits s area), of (CannotBeBettered s area) (cannot-be-bettered s area)))))
 
-check-requires : tie.Need-check-requires
-check-requires c κs = search needs
-
-enum-known-checked : tie.Need-enum-known-checked
-enum-known-checked c = search needs
-
-enum-told : tie.Need-enum-told
-enum-told c = search needs
-
 fitted-requires : tie.Need-fitted-requires
 fitted-requires c κs =
     let e = c .before in
@@ -47,9 +38,6 @@ returns c =
     let (p, q) = as-checked (s .args .job .now) (s .args .area .now) (numberOf r) (rowOf r) (sym (k .check .ensures .0) ∙ ap answerOf (c .before .checked .given .1)) in
     promised (s .args .job .now) (s .args .area .now) _ _ (sym p) (sym q)
 
-same-length : tie.Need-same-length
-same-length c = search needs
-
 returns-2 : tie.Need-returns-2
 returns-2 c =
     let f = c .before .before in
@@ -59,11 +47,4 @@ returns-2 c =
 pub plan-spec : {M : Type 1} → statement M
 plan-spec =
     tie.close
-    (tie.spec
-    check-requires
-    enum-known-checked
-    enum-told
-    fitted-requires
-    returns
-    same-length
-    returns-2)
+    (tie.spec (search needs) (search needs) (search needs) fitted-requires returns (search needs) returns-2)

@@ -71,9 +71,6 @@ write-requires c κs =
     let p = start k .pre in
     (p .0, (p .1 .1 .0, (p .1 .1 .1 .0, (p .1 .1 .1 .1 .0, (within k 1000000000 (omega arith), p .1 .1 .1 .1 .1)))))
 
-same-length : tie.Need-same-length
-same-length c = search needs
-
 returns : tie.Need-returns
 returns c =
     let w = c .before .before in
@@ -92,4 +89,4 @@ returns c =
 
 pub written-spec : {M : Type 1} → statement M
 written-spec =
-    tie.close (tie.spec slopes-requires numbers-requires objective-requires write-requires same-length returns)
+    tie.close (tie.spec slopes-requires numbers-requires objective-requires write-requires (search needs) returns)

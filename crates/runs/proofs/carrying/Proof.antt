@@ -12,12 +12,6 @@ use Rattle.runs.proofs.carrying.Tie as tie
 both : (e : Equation) (q : Run) (x : WorkingAnswer) → x ≡ carrying e q → (x ≡ carrying e q) × RefusedUnless (CarryLimits e × OneForm q) x
 both e q x is = (is, carrying-unless is)
 
-in-limits-requires : tie.Need-in-limits-requires
-in-limits-requires c κs = search needs
-
-is-one-form-requires : tie.Need-is-one-form-requires
-is-one-form-requires c κs = search needs
-
 carry-requires : tie.Need-carry-requires
 carry-requires c κs =
     let k = c .before in
@@ -48,10 +42,4 @@ returns-3 c =
 pub carrying-spec : {M : Type 1} → statement M
 carrying-spec =
     tie.close
-    (tie.spec
-    in-limits-requires
-    is-one-form-requires
-    carry-requires
-    returns
-    returns-2
-    returns-3)
+    (tie.spec (search needs) (search needs) carry-requires returns returns-2 returns-3)

@@ -12,12 +12,6 @@ use Rattle.runs.proofs.meeting.Tie as tie
 both : (a b : Run) (x : WorkingAnswer) → x ≡ meeting a b → (x ≡ meeting a b) × RefusedUnless (OneForm a × OneForm b) x
 both a b x e = (e, meeting-unless e)
 
-is-one-form-requires : tie.Need-is-one-form-requires
-is-one-form-requires c κs = search needs
-
-is-one-form-requires-2 : tie.Need-is-one-form-requires-2
-is-one-form-requires-2 c κs = search needs
-
 meet-requires : tie.Need-meet-requires
 meet-requires c κs =
     let k = c .before in
@@ -46,10 +40,4 @@ returns-3 c =
 pub meeting-spec : {M : Type 1} → statement M
 meeting-spec =
     tie.close
-    (tie.spec
-    is-one-form-requires
-    is-one-form-requires-2
-    meet-requires
-    returns
-    returns-2
-    returns-3)
+    (tie.spec (search needs) (search needs) meet-requires returns returns-2 returns-3)

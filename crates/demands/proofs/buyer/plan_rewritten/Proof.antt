@@ -7,33 +7,6 @@ use Rattle.demands.proofs.Carried.{again}
 use Rattle.demands.proofs.buyer.plan_rewritten.Statement.{statement}
 use Rattle.demands.proofs.buyer.plan_rewritten.Tie as tie
 
-get-requires : tie.Need-get-requires
-get-requires c κs = search needs
-
-plan-requires : tie.Need-plan-requires
-plan-requires c κs = search needs
-
-is-planned-requires : tie.Need-is-planned-requires
-is-planned-requires c κs = search needs
-
-get-requires-2 : tie.Need-get-requires-2
-get-requires-2 c κs = search needs
-
-put-requires : tie.Need-put-requires
-put-requires c κs = search needs
-
-is-apart-requires : tie.Need-is-apart-requires
-is-apart-requires c κs = search needs
-
-get-requires-3 : tie.Need-get-requires-3
-get-requires-3 c κs = search needs
-
-put-requires-2 : tie.Need-put-requires-2
-put-requires-2 c κs = search needs
-
-same-length : tie.Need-same-length
-same-length c = search needs
-
 returns : tie.Need-returns
 returns c =
     let put2 = c .before .before in
@@ -52,14 +25,5 @@ returns c =
 pub plan-rewritten-spec : {M : Type 1} → statement M
 plan-rewritten-spec =
     tie.close
-    (tie.spec
-    get-requires
-    plan-requires
-    is-planned-requires
-    get-requires-2
-    put-requires
-    is-apart-requires
-    get-requires-3
-    put-requires-2
-    same-length
-    returns)
+    (tie.spec (search needs) (search needs) (search needs) (search needs) (search needs) (search needs) (search needs)
+    (search needs) (search needs) returns)

@@ -7,30 +7,6 @@ use Rattle.demands.proofs.Carried.{again}
 use Rattle.demands.proofs.installer.plan_apart.Statement.{statement}
 use Rattle.demands.proofs.installer.plan_apart.Tie as tie
 
-get-requires : tie.Need-get-requires
-get-requires c κs = search needs
-
-plan-requires : tie.Need-plan-requires
-plan-requires c κs = search needs
-
-is-apart-requires : tie.Need-is-apart-requires
-is-apart-requires c κs = search needs
-
-get-requires-2 : tie.Need-get-requires-2
-get-requires-2 c κs = search needs
-
-put-requires : tie.Need-put-requires
-put-requires c κs = search needs
-
-get-requires-3 : tie.Need-get-requires-3
-get-requires-3 c κs = search needs
-
-put-requires-2 : tie.Need-put-requires-2
-put-requires-2 c κs = search needs
-
-same-length : tie.Need-same-length
-same-length c = search needs
-
 returns : tie.Need-returns
 returns c =
     let put2 = c .before .before in
@@ -48,13 +24,5 @@ returns c =
 pub plan-apart-spec : {M : Type 1} → statement M
 plan-apart-spec =
     tie.close
-    (tie.spec
-    get-requires
-    plan-requires
-    is-apart-requires
-    get-requires-2
-    put-requires
-    get-requires-3
-    put-requires-2
-    same-length
-    returns)
+    (tie.spec (search needs) (search needs) (search needs) (search needs) (search needs) (search needs) (search needs)
+    (search needs) returns)

@@ -14,14 +14,5 @@ returns c =
     let area = a .area .now in
     turned-early (GivesFits s area) s area (omega (arith, c .if1 .taken)) (definitions-give-fits s area)
 
-plan-requires : tie.Need-plan-requires
-plan-requires c κs = search needs
-
-same-length : tie.Need-same-length
-same-length c = search needs
-
-returns-2 : tie.Need-returns-2
-returns-2 c = search needs
-
 pub plan-early-spec : {M : Type 1} → statement M
-plan-early-spec = tie.close (tie.spec returns plan-requires same-length returns-2)
+plan-early-spec = tie.close (tie.spec returns (search needs) (search needs) (λ c. search needs))

@@ -9,38 +9,17 @@ use Rattle.demands.proofs.Carried.{passed-on}
 use Rattle.demands.proofs.installer.plan_passed_on.Statement.{statement}
 use Rattle.demands.proofs.installer.plan_passed_on.Tie as tie
 
-plan-requires : tie.Need-plan-requires
-plan-requires c κs = search needs
-
-enum-known-outcome : tie.Need-enum-known-outcome
-enum-known-outcome c = search needs
-
-enum-known-outcome-2 : tie.Need-enum-known-outcome-2
-enum-known-outcome-2 c = search needs
-
-enum-known-outcome-3 : tie.Need-enum-known-outcome-3
-enum-known-outcome-3 c = search needs
-
-same-length : tie.Need-same-length
-same-length c = search needs
-
 returns : tie.Need-returns
 returns c =
     let plan = c .before .before .before .before .before in
     let s = plan .before .before .before .before .args in
     passed-on (GivesFits (s .job .now) (s .area .now)) (plan .plan .ensures .1 .1 .1 .0) (c .before .outcome .given .1 ∙ ap Planned (sym (toZ-ofZ {w = w64} (record { sfits = c .known-told .given .0 .1 })))) refl
 
-same-length-2 : tie.Need-same-length-2
-same-length-2 c = search needs
-
 returns-2 : tie.Need-returns-2
 returns-2 c =
     let plan = c .before .before .before .before .before in
     let s = plan .before .before .before .before .args in
     passed-on (GivesFits (s .job .now) (s .area .now)) (plan .plan .ensures .1 .1 .1 .0) (c .before .outcome2 .given .1) refl
-
-same-length-3 : tie.Need-same-length-3
-same-length-3 c = search needs
 
 returns-3 : tie.Need-returns-3
 returns-3 c =
@@ -51,14 +30,5 @@ returns-3 c =
 pub plan-passed-on-spec : {M : Type 1} → statement M
 plan-passed-on-spec =
     tie.close
-    (tie.spec
-    plan-requires
-    enum-known-outcome
-    enum-known-outcome-2
-    enum-known-outcome-3
-    same-length
-    returns
-    same-length-2
-    returns-2
-    same-length-3
-    returns-3)
+    (tie.spec (search needs) (search needs) (search needs) (search needs) (search needs) returns (search needs)
+    returns-2 (search needs) returns-3)

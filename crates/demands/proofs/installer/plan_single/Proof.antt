@@ -7,27 +7,6 @@ use Rattle.demands.proofs.Carried.{again}
 use Rattle.demands.proofs.installer.plan_single.Statement.{statement}
 use Rattle.demands.proofs.installer.plan_single.Tie as tie
 
-plan-requires : tie.Need-plan-requires
-plan-requires c κs = search needs
-
-is-single-requires : tie.Need-is-single-requires
-is-single-requires c κs = search needs
-
-get-requires : tie.Need-get-requires
-get-requires c κs = search needs
-
-put-requires : tie.Need-put-requires
-put-requires c κs = search needs
-
-get-requires-2 : tie.Need-get-requires-2
-get-requires-2 c κs = search needs
-
-put-requires-2 : tie.Need-put-requires-2
-put-requires-2 c κs = search needs
-
-same-length : tie.Need-same-length
-same-length c = search needs
-
 returns : tie.Need-returns
 returns c =
     let put2 = c .before .before in
@@ -45,12 +24,5 @@ returns c =
 pub plan-single-spec : {M : Type 1} → statement M
 plan-single-spec =
     tie.close
-    (tie.spec
-    plan-requires
-    is-single-requires
-    get-requires
-    put-requires
-    get-requires-2
-    put-requires-2
-    same-length
+    (tie.spec (search needs) (search needs) (search needs) (search needs) (search needs) (search needs) (search needs)
     returns)

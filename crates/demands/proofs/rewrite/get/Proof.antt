@@ -7,14 +7,8 @@ use borrow.Author.Needs.{needs}
 use Rattle.demands.proofs.rewrite.get.Statement.{statement}
 use Rattle.demands.proofs.rewrite.get.Tie as tie
 
-shared-slice-read-result : tie.Need-shared-slice-read-result
-shared-slice-read-result c = search needs
-
-returns : tie.Need-returns
-returns c = search needs
-
 returns-2 : tie.Need-returns-2
 returns-2 c = let s = c .before .args in sym (List·getD-eq-default (now (s .s)) 0 (omega (arith, c .if1 .left)))
 
 pub get-spec : {M : Type 1} → statement M
-get-spec = tie.close (tie.spec shared-slice-read-result returns returns-2)
+get-spec = tie.close (tie.spec (search needs) (search needs) returns-2)

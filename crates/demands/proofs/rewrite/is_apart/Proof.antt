@@ -7,19 +7,10 @@ use Rattle.demands.proofs.Carried.{by-byte}
 use Rattle.demands.proofs.rewrite.is_apart.Statement.{statement}
 use Rattle.demands.proofs.rewrite.is_apart.Tie as tie
 
-is-planned-requires : tie.Need-is-planned-requires
-is-planned-requires c κs = search needs
-
-get-requires : tie.Need-get-requires
-get-requires c κs = search needs
-
 returns : tie.Need-returns
 returns c =
     let told = c .before .before in
     by-byte (λ x. not (eqb x 0)) (c .get .result) _ (sym (told .is-planned .ensures) ∙ c .before .if1 .taken) (c .get .ensures)
 
-returns-2 : tie.Need-returns-2
-returns-2 c = search needs
-
 pub is-apart-spec : {M : Type 1} → statement M
-is-apart-spec = tie.close (tie.spec is-planned-requires get-requires returns returns-2)
+is-apart-spec = tie.close (tie.spec (search needs) (search needs) returns (λ c. search needs))

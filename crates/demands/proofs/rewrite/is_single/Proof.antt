@@ -6,19 +6,10 @@ use Rattle.demands.proofs.Carried.{by-byte}
 use Rattle.demands.proofs.rewrite.is_single.Statement.{statement}
 use Rattle.demands.proofs.rewrite.is_single.Tie as tie
 
-is-planned-requires : tie.Need-is-planned-requires
-is-planned-requires c κs = search needs
-
-get-requires : tie.Need-get-requires
-get-requires c κs = search needs
-
 returns : tie.Need-returns
 returns c =
     let told = c .before .before in
     by-byte (λ x. eqb x 1) (c .get .result) _ (sym (told .is-planned .ensures) ∙ c .before .if1 .taken) (c .get .ensures)
 
-returns-2 : tie.Need-returns-2
-returns-2 c = search needs
-
 pub is-single-spec : {M : Type 1} → statement M
-is-single-spec = tie.close (tie.spec is-planned-requires get-requires returns returns-2)
+is-single-spec = tie.close (tie.spec (search needs) (search needs) returns (λ c. search needs))

@@ -11,12 +11,6 @@ use borrow.Author.Needs.{needs}
 use Rattle.demands.proofs.rewrite.put.Statement.{statement}
 use Rattle.demands.proofs.rewrite.put.Tie as tie
 
-slice-write-area : tie.Need-slice-write-area
-slice-write-area c = search needs
-
-same-length : tie.Need-same-length
-same-length c = search needs
-
 -- where it is told to
 told : {t : Bool} (s r : List ℕ) → t ≡ true → s ≡ cond t s r
 told s r e = sym (ap (λ t. cond t s r) e)
@@ -29,8 +23,5 @@ returns-2 c =
     let a = c .before .before .args in
     sym (set-out (now (a .area)) (a .at) (a .x) (omega (arith, c .if2 .left))) ∙ told (set (now (a .area)) (a .at) (a .x)) (now (a .area)) (c .before .if1 .taken)
 
-returns-3 : tie.Need-returns-3
-returns-3 c = search needs
-
 pub put-spec : {M : Type 1} → statement M
-put-spec = tie.close (tie.spec slice-write-area same-length returns returns-2 returns-3)
+put-spec = tie.close (tie.spec (search needs) (search needs) returns returns-2 (λ c. search needs))

@@ -7,12 +7,6 @@ use borrow.Author.Needs.{needs}
 use Rattle.jobs.proofs.Equation.in_limits.Statement.{statement}
 use Rattle.jobs.proofs.Equation.in_limits.Tie as tie
 
-form-requires : tie.Need-form-requires
-form-requires c κs = search needs
-
-in-limits-requires : tie.Need-in-limits-requires
-in-limits-requires c κs = search needs
-
 returns : tie.Need-returns
 returns c =
     let e = form (c .before .before .args .self) in
@@ -20,4 +14,4 @@ returns c =
     (λ t. in-limits-iff e .0 (sym same ∙ t), λ h. same ∙ in-limits-iff e .1 h)
 
 pub in-limits-spec : {M : Type 1} → statement M
-in-limits-spec = tie.close (tie.spec form-requires in-limits-requires returns)
+in-limits-spec = tie.close (tie.spec (search needs) (search needs) returns)

@@ -14,45 +14,6 @@ use Rattle.jobs.proofs.Equation.read.Tie as tie
 from-row : (s : List ℕ) {n : ℕ} → n ≡ variableCount s → (k : ℕ) → k < equationCount s → equationFrom s (equationRowAt n k) ≡ equation (jobOf s) k
 from-row s e k h = ap (λ n. equationFrom s (equationRowAt n k)) e ∙ sym (equation-of s k h)
 
-mul-at : tie.Need-mul-at
-mul-at c = search needs
-
-add-at : tie.Need-add-at
-add-at c = search needs
-
-mul-at-2 : tie.Need-mul-at-2
-mul-at-2 c = search needs
-
-add-at-2 : tie.Need-add-at-2
-add-at-2 c = search needs
-
-u16-at-requires : tie.Need-u16-at-requires
-u16-at-requires c κs = search needs
-
-add-u16-at : tie.Need-add-u16-at
-add-u16-at c = search needs
-
-u16-at-requires-2 : tie.Need-u16-at-requires-2
-u16-at-requires-2 c κs = search needs
-
-add-i32-at : tie.Need-add-i32-at
-add-i32-at c = search needs
-
-i32-at-requires : tie.Need-i32-at-requires
-i32-at-requires c κs = search needs
-
-add-i32-at-2 : tie.Need-add-i32-at-2
-add-i32-at-2 c = search needs
-
-i32-at-requires-2 : tie.Need-i32-at-requires-2
-i32-at-requires-2 c κs = search needs
-
-add-i64-at : tie.Need-add-i64-at
-add-i64-at c = search needs
-
-i64-at-requires : tie.Need-i64-at-requires
-i64-at-requires c κs = search needs
-
 returns : tie.Need-returns
 returns c =
     let d = c .before in
@@ -71,18 +32,5 @@ returns c =
 pub read-spec : {M : Type 1} → statement M
 read-spec =
     tie.close
-    (tie.spec
-    mul-at
-    add-at
-    mul-at-2
-    add-at-2
-    u16-at-requires
-    add-u16-at
-    u16-at-requires-2
-    add-i32-at
-    i32-at-requires
-    add-i32-at-2
-    i32-at-requires-2
-    add-i64-at
-    i64-at-requires
-    returns)
+    (tie.spec (search needs) (search needs) (search needs) (search needs) (search needs) (search needs) (search needs)
+    (search needs) (search needs) (search needs) (search needs) (search needs) (search needs) returns)

@@ -18,15 +18,6 @@ use Rattle.jobs.proofs.Variable.in_range.Tie as tie
 within-told : (most : ℕ) (x : ℤ) {r b : Bool} → mag x < 2 ^ hbits w64 → r ≡ isWithin most (held x) → r ≡ b → isWithin most x ≡ b
 within-told most x f = told {w = w64} {x = x} (isWithin most) (record { sfits = f })
 
-is-within-requires : tie.Need-is-within-requires
-is-within-requires c κs = search needs
-
-is-within-requires-2 : tie.Need-is-within-requires-2
-is-within-requires-2 c κs = search needs
-
-is-within-requires-3 : tie.Need-is-within-requires-3
-is-within-requires-3 c κs = search needs
-
 returns : tie.Need-returns
 returns c =
     let k = c .before .before .before in
@@ -56,10 +47,4 @@ returns-3 c =
 pub in-range-spec : {M : Type 1} → statement M
 in-range-spec =
     tie.close
-    (tie.spec
-    is-within-requires
-    is-within-requires-2
-    is-within-requires-3
-    returns
-    returns-2
-    returns-3)
+    (tie.spec (search needs) (search needs) (search needs) returns returns-2 returns-3)

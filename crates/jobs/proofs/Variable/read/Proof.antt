@@ -7,27 +7,6 @@ use borrow.Author.Needs.{needs}
 use Rattle.jobs.proofs.Variable.read.Statement.{statement}
 use Rattle.jobs.proofs.Variable.read.Tie as tie
 
-mul-at : tie.Need-mul-at
-mul-at c = search needs
-
-add-at : tie.Need-add-at
-add-at c = search needs
-
-i32-at-requires : tie.Need-i32-at-requires
-i32-at-requires c κs = search needs
-
-add-i32-at : tie.Need-add-i32-at
-add-i32-at c = search needs
-
-i32-at-requires-2 : tie.Need-i32-at-requires-2
-i32-at-requires-2 c κs = search needs
-
-add-i32-at-2 : tie.Need-add-i32-at-2
-add-i32-at-2 c = search needs
-
-i32-at-requires-3 : tie.Need-i32-at-requires-3
-i32-at-requires-3 c κs = search needs
-
 returns : tie.Need-returns
 returns c =
     let d = c .before in
@@ -43,12 +22,5 @@ returns c =
 pub read-spec : {M : Type 1} → statement M
 read-spec =
     tie.close
-    (tie.spec
-    mul-at
-    add-at
-    i32-at-requires
-    add-i32-at
-    i32-at-requires-2
-    add-i32-at-2
-    i32-at-requires-3
+    (tie.spec (search needs) (search needs) (search needs) (search needs) (search needs) (search needs) (search needs)
     returns)

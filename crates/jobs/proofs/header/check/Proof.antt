@@ -42,26 +42,14 @@ past-counts c =
 returns : tie.Need-returns
 returns c = sym (first-here (broken? noArea? (now (c .before .before .args .job))) ShortJob _ (c .if1 .taken))
 
-has-mark-requires : tie.Need-has-mark-requires
-has-mark-requires c κs = search needs
-
 returns-2 : tie.Need-returns-2
 returns-2 c = sym (past-length _ (omega arith) ∙ first-here (broken? noArea? _) WrongMark _ (failed _ (c .before .has-mark .ensures) (c .if2 .taken)))
-
-variable-count-requires : tie.Need-variable-count-requires
-variable-count-requires c κs = search needs
 
 returns-3 : tie.Need-returns-3
 returns-3 c = sym (past-mark (c .before .before) ∙ first-here (broken? noArea? _) TooMany _ (inl (omega arith)))
 
-equation-count-requires : tie.Need-equation-count-requires
-equation-count-requires c κs = search needs
-
 returns-4 : tie.Need-returns-4
 returns-4 c = sym (past-mark (c .before .before .before .before) ∙ first-here (broken? noArea? _) TooMany _ (inr (omega arith)))
-
-is-laid-out-requires : tie.Need-is-laid-out-requires
-is-laid-out-requires c κs = search needs
 
 returns-5 : tie.Need-returns-5
 returns-5 c = sym (past-counts (c .before .before) ∙ first-here (broken? noArea? _) WrongHeader _ (failed _ (c .before .is-laid-out .ensures) (c .if5 .taken)))
@@ -74,14 +62,5 @@ returns-6 c =
 pub check-spec : {M : Type 1} → statement M
 check-spec =
     tie.close
-    (tie.spec
-    returns
-    has-mark-requires
-    returns-2
-    variable-count-requires
-    returns-3
-    equation-count-requires
-    returns-4
-    is-laid-out-requires
-    returns-5
-    returns-6)
+    (tie.spec returns (search needs) returns-2 (search needs) returns-3 (search needs) returns-4 (search needs)
+    returns-5 returns-6)

@@ -25,38 +25,14 @@ laid-out s n m e f a b l z = (
   λ h. eq-eqb (length s) (24 + 12 * n + 20 * m) (h .real-length ∙ omega arith),
 )
 
-mul-equations : tie.Need-mul-equations
-mul-equations c = search needs
-
-add-equations : tie.Need-add-equations
-add-equations c = search needs
-
-mul-whole : tie.Need-mul-whole
-mul-whole c = search needs
-
-add-whole : tie.Need-add-whole
-add-whole c = search needs
-
-u32-at-requires : tie.Need-u32-at-requires
-u32-at-requires c κs = search needs
-
 returns : tie.Need-returns
 returns c = (λ e. absurd (false≢true e), λ h. absurd (c .if1 .taken (c .before .u32-at .ensures .0 ∙ h .variables)))
-
-u32-at-requires-2 : tie.Need-u32-at-requires-2
-u32-at-requires-2 c κs = search needs
 
 returns-2 : tie.Need-returns-2
 returns-2 c = (λ e. absurd (false≢true e), λ h. absurd (c .if2 .taken (c .before .u32-at2 .ensures .0 ∙ h .equations ∙ omega arith)))
 
-u32-at-requires-3 : tie.Need-u32-at-requires-3
-u32-at-requires-3 c κs = search needs
-
 returns-3 : tie.Need-returns-3
 returns-3 c = (λ e. absurd (false≢true e), λ h. absurd (c .if3 .taken (c .before .u32-at3 .ensures .0 ∙ h .length-field ∙ omega arith)))
-
-u32-at-requires-4 : tie.Need-u32-at-requires-4
-u32-at-requires-4 c κs = search needs
 
 returns-4 : tie.Need-returns-4
 returns-4 c = (λ e. absurd (false≢true e), λ h. absurd (c .if4 .taken (c .before .u32-at4 .ensures .0 ∙ h .zeros)))
@@ -73,17 +49,5 @@ returns-5 c =
 pub is-laid-out-spec : {M : Type 1} → statement M
 is-laid-out-spec =
     tie.close
-    (tie.spec
-    mul-equations
-    add-equations
-    mul-whole
-    add-whole
-    u32-at-requires
-    returns
-    u32-at-requires-2
-    returns-2
-    u32-at-requires-3
-    returns-3
-    u32-at-requires-4
-    returns-4
-    returns-5)
+    (tie.spec (search needs) (search needs) (search needs) (search needs) (search needs) returns (search needs)
+    returns-2 (search needs) returns-3 (search needs) returns-4 returns-5)

@@ -15,9 +15,6 @@ use Rattle.planner.proofs.choose.choice.Tie as tie
 tested : (slope : ℤ) (many : ℕ) → SFits w64 slope → {t : Bool} → ltZ (pos 0) (held slope) ≡ t → cond t (many - 1) 0 ≡ cond (ltZ (pos 0) slope) (many - 1) 0
 tested slope many f e = ap (λ t. cond t (many - 1) 0) (sym e ∙ ap (ltZ (pos 0)) (toZ-ofZ f))
 
-sub-result : tie.Need-sub-result
-sub-result c = search needs
-
 returns : tie.Need-returns
 returns c = let s = c .before in tested (s .args .slope) (s .args .many) (s .fits .slope) (c .if1 .taken)
 
@@ -25,4 +22,4 @@ returns-2 : tie.Need-returns-2
 returns-2 c = let s = c .before in tested (s .args .slope) (s .args .many) (s .fits .slope) (c .if1 .left)
 
 pub choice-spec : {M : Type 1} → statement M
-choice-spec = tie.close (tie.spec sub-result returns returns-2)
+choice-spec = tie.close (tie.spec (search needs) returns returns-2)

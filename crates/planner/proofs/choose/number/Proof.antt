@@ -40,12 +40,6 @@ module _ (r : Run) (slope : ℤ) (k : ℕ) (f : FamilyRun r) (some : 1 ≤ r .ma
   fits-total : SFits w64 (r .first +ℤ r .step *ℤ pos k)
   fits-total = fits-64 1000000000 (omega arith) (member-within f k below)
 
-choice-requires : tie.Need-choice-requires
-choice-requires c κs = search needs
-
-cast-result : tie.Need-cast-result
-cast-result c = search needs
-
 chosen : (c : tie.After-choice) → c .choice .result ≡ choice (c .before .args .slope) (c .before .args .run .many)
 chosen c = c .choice .ensures ∙ ap (λ g. choice g (c .before .args .run .many)) (toZ-ofZ (c .before .fits .slope))
 
@@ -68,4 +62,4 @@ returns c =
     ap held (total (s .args .run) (s .args .slope) (a .choice .result) (s .pre .0) (s .pre .1) (chosen a)) ∙ toZ-ofZ (fits-total (s .args .run) (s .args .slope) (a .choice .result) (s .pre .0) (s .pre .1) (chosen a)) ∙ ap (λ k. s .args .run .first +ℤ s .args .run .step *ℤ pos k) (chosen a)
 
 pub number-spec : {M : Type 1} → statement M
-number-spec = tie.close (tie.spec choice-requires cast-result mul-result add-result returns)
+number-spec = tie.close (tie.spec (search needs) (search needs) mul-result add-result returns)

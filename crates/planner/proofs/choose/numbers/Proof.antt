@@ -22,21 +22,6 @@ abbrev μ-loop : tie.MeasureT-loop
 loop-holds : tie.Need-loop-holds Inv-loop μ-loop
 loop-holds c = let x = c .args in (omega arith, unfilled (pos 0) (numberIn (x .t1) (x .t2) (x .t3)) _ (search needs))
 
-mul-run : tie.Need-mul-run Inv-loop μ-loop
-mul-run c = omega arith
-
-array-copy-out-run : tie.Need-array-copy-out-run Inv-loop μ-loop
-array-copy-out-run c = omega arith
-
-mul-l : tie.Need-mul-l Inv-loop μ-loop
-mul-l c = omega arith
-
-array-read-l : tie.Need-array-read-l Inv-loop μ-loop
-array-read-l c = omega arith
-
-cast-l : tie.Need-cast-l Inv-loop μ-loop
-cast-l c = search needs
-
 mul-number : tie.Need-mul-number Inv-loop μ-loop
 mul-number c = omega (arith, c .before .before .before .pre .1 .0 .at (c .before .before .loop .i) (omega arith))
 
@@ -48,18 +33,6 @@ number-requires c κs =
     let i = c .before .before .before .loop .i in
     let p = c .before .before .before .before .pre .1 .1 in
     (p .0 .at i (omega arith), p .1 .at i (omega arith))
-
-mul-numbers : tie.Need-mul-numbers Inv-loop μ-loop
-mul-numbers c = omega arith
-
-array-set-from-numbers : tie.Need-array-set-from-numbers Inv-loop μ-loop
-array-set-from-numbers c = omega arith
-
-add-i : tie.Need-add-i Inv-loop μ-loop
-add-i c = omega arith
-
-loop-less : tie.Need-loop-less Inv-loop μ-loop
-loop-less c = omega arith
 
 loop-again : tie.Need-loop-again Inv-loop μ-loop
 loop-again c =
@@ -79,21 +52,6 @@ returns c = let l = c .before .loop in record { at = λ i h. l .inv .1 .done i (
 pub numbers-spec : {M : Type 1} → statement M
 numbers-spec =
     tie.close
-    (tie.spec
-    Inv-loop
-    μ-loop
-    loop-holds
-    mul-run
-    array-copy-out-run
-    mul-l
-    array-read-l
-    cast-l
-    mul-number
-    array-copy-out-number
-    number-requires
-    mul-numbers
-    array-set-from-numbers
-    add-i
-    loop-less
-    loop-again
-    returns)
+    (tie.spec Inv-loop μ-loop loop-holds (λ c. omega arith) (λ c. omega arith) (λ c. omega arith) (λ c. omega arith)
+    (λ c. search needs) mul-number array-copy-out-number number-requires (λ c. omega arith) (λ c. omega arith)
+    (λ c. omega arith) (λ c. omega arith) loop-again returns)

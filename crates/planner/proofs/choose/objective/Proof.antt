@@ -33,18 +33,6 @@ abbrev μ-loop : tie.MeasureT-loop
 loop-holds : tie.Need-loop-holds Inv-loop μ-loop
 loop-holds c = let x = c .args in (omega arith, sym (none (x .t1) (x .t2)))
 
-mul-objective : tie.Need-mul-objective Inv-loop μ-loop
-mul-objective c = omega arith
-
-array-copy-out-objective : tie.Need-array-copy-out-objective Inv-loop μ-loop
-array-copy-out-objective c = omega arith
-
-mul-objective-2 : tie.Need-mul-objective-2 Inv-loop μ-loop
-mul-objective-2 c = omega arith
-
-array-copy-out-objective-2 : tie.Need-array-copy-out-objective-2 Inv-loop μ-loop
-array-copy-out-objective-2 c = omega arith
-
 -- with the weight and the number of variable i at hand
 module _ (c : tie.After-objective2 Inv-loop μ-loop) where
   abbrev start : tie.Start Inv-loop μ-loop
@@ -87,12 +75,6 @@ mul-objective-3 c = fits-product (before c) (weight c) (value c) (weight-small c
 add-objective : tie.Need-add-objective Inv-loop μ-loop
 add-objective c = fits-total (before c) (weight c) (value c) (weight-small c) (value-small c) (sum-small c)
 
-add-i : tie.Need-add-i Inv-loop μ-loop
-add-i c = omega arith
-
-loop-less : tie.Need-loop-less Inv-loop μ-loop
-loop-less c = omega arith
-
 loop-again : tie.Need-loop-again Inv-loop μ-loop
 loop-again c = (omega arith, total-is (before c) (weight c) (value c) (weight-small c) (value-small c) (sum-small c) ∙ next (weights c) (numbers c) (i c))
 
@@ -106,17 +88,5 @@ returns c =
 pub objective-spec : {M : Type 1} → statement M
 objective-spec =
     tie.close
-    (tie.spec
-    Inv-loop
-    μ-loop
-    loop-holds
-    mul-objective
-    array-copy-out-objective
-    mul-objective-2
-    array-copy-out-objective-2
-    mul-objective-3
-    add-objective
-    add-i
-    loop-less
-    loop-again
-    returns)
+    (tie.spec Inv-loop μ-loop loop-holds (λ c. omega arith) (λ c. omega arith) (λ c. omega arith) (λ c. omega arith)
+    mul-objective-3 add-objective (λ c. omega arith) (λ c. omega arith) loop-again returns)

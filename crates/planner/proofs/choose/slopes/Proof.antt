@@ -76,32 +76,11 @@ abbrev μ-loop : tie.MeasureT-loop
 loop-holds : tie.Need-loop-holds Inv-loop μ-loop
 loop-holds c = let x = c .args in (omega arith, none (number (x .t1)) (labelIn (x .t2)) (steps (x .t3)) (x .n))
 
-mul-run : tie.Need-mul-run Inv-loop μ-loop
-mul-run c = omega arith
-
-array-copy-out-run : tie.Need-array-copy-out-run Inv-loop μ-loop
-array-copy-out-run c = omega arith
-
-mul-l : tie.Need-mul-l Inv-loop μ-loop
-mul-l c = omega arith
-
-array-read-l : tie.Need-array-read-l Inv-loop μ-loop
-array-read-l c = omega arith
-
-cast-l : tie.Need-cast-l Inv-loop μ-loop
-cast-l c = search needs
-
 mul-slopes : tie.Need-mul-slopes Inv-loop μ-loop
 mul-slopes c = omega (arith, c .before .before .before .pre .1 .1 .0 .at (c .before .before .loop .i) (omega arith))
 
 array-copy-out-slopes : tie.Need-array-copy-out-slopes Inv-loop μ-loop
 array-copy-out-slopes c = omega (arith, c .before .before .before .pre .1 .1 .0 .at (c .before .before .loop .i) (omega arith))
-
-mul-slopes-2 : tie.Need-mul-slopes-2 Inv-loop μ-loop
-mul-slopes-2 c = omega arith
-
-array-copy-out-slopes-2 : tie.Need-array-copy-out-slopes-2 Inv-loop μ-loop
-array-copy-out-slopes-2 c = omega arith
 
 -- after all is read
 module _ (c : tie.After-struct-told Inv-loop μ-loop) where
@@ -159,12 +138,6 @@ mul-slopes-4 c = omega (arith, low c)
 array-set-from-slopes : tie.Need-array-set-from-slopes Inv-loop μ-loop
 array-set-from-slopes c = omega (arith, low c)
 
-add-i : tie.Need-add-i Inv-loop μ-loop
-add-i c = omega arith
-
-loop-less : tie.Need-loop-less Inv-loop μ-loop
-loop-less c = omega arith
-
 loop-again : tie.Need-loop-again Inv-loop μ-loop
 loop-again c = (
   omega arith,
@@ -182,24 +155,6 @@ returns c =
 pub slopes-spec : {M : Type 1} → statement M
 slopes-spec =
     tie.close
-    (tie.spec
-    Inv-loop
-    μ-loop
-    loop-holds
-    mul-run
-    array-copy-out-run
-    mul-l
-    array-read-l
-    cast-l
-    mul-slopes
-    array-copy-out-slopes
-    mul-slopes-2
-    array-copy-out-slopes-2
-    mul-slopes-3
-    add-slopes
-    mul-slopes-4
-    array-set-from-slopes
-    add-i
-    loop-less
-    loop-again
-    returns)
+    (tie.spec Inv-loop μ-loop loop-holds (λ c. omega arith) (λ c. omega arith) (λ c. omega arith) (λ c. omega arith)
+    (λ c. search needs) mul-slopes array-copy-out-slopes (λ c. omega arith) (λ c. omega arith) mul-slopes-3 add-slopes
+    mul-slopes-4 array-set-from-slopes (λ c. omega arith) (λ c. omega arith) loop-again returns)

@@ -24,30 +24,6 @@ row at many k slope a l₁ l₂ l₃ h e₁ e₂ e₃ =
     let w₂ = behind-it w₁ (omega arith) (bytesOf 4 k) e₂ refl (length-bytesOf 4 k) in
     behind-it w₂ (omega arith) (signedBytes 8 slope) e₃ refl (length-signedBytes 8 slope) .is
 
-put-requires : tie.Need-put-requires
-put-requires c κs = search needs
-
-add-put : tie.Need-add-put
-add-put c = search needs
-
-choice-requires : tie.Need-choice-requires
-choice-requires c κs = search needs
-
-cast-put : tie.Need-cast-put
-cast-put c = search needs
-
-put-requires-2 : tie.Need-put-requires-2
-put-requires-2 c κs = search needs
-
-add-put-i64 : tie.Need-add-put-i64
-add-put-i64 c = search needs
-
-put-i64-requires : tie.Need-put-i64-requires
-put-i64-requires c κs = search needs
-
-same-length : tie.Need-same-length
-same-length c = search needs
-
 returns : tie.Need-returns
 returns c =
     let q3 = c .before .before in
@@ -65,13 +41,5 @@ returns c =
 pub group-spec : {M : Type 1} → statement M
 group-spec =
     tie.close
-    (tie.spec
-    put-requires
-    add-put
-    choice-requires
-    cast-put
-    put-requires-2
-    add-put-i64
-    put-i64-requires
-    same-length
-    returns)
+    (tie.spec (search needs) (search needs) (search needs) (search needs) (search needs) (search needs) (search needs)
+    (search needs) returns)

@@ -60,27 +60,6 @@ loop-holds c =
       ),
     )
 
-mul-if1 : tie.Need-mul-if1 Inv-loop μ-loop
-mul-if1 c = omega arith
-
-array-read-if1 : tie.Need-array-read-if1 Inv-loop μ-loop
-array-read-if1 c = omega arith
-
-cast-if1 : tie.Need-cast-if1 Inv-loop μ-loop
-cast-if1 c = search needs
-
-mul-run : tie.Need-mul-run Inv-loop μ-loop
-mul-run c = omega arith
-
-array-copy-out-run : tie.Need-array-copy-out-run Inv-loop μ-loop
-array-copy-out-run c = omega arith
-
-mul-group : tie.Need-mul-group Inv-loop μ-loop
-mul-group c = omega arith
-
-array-copy-out-group : tie.Need-array-copy-out-group Inv-loop μ-loop
-array-copy-out-group c = omega arith
-
 group-requires : tie.Need-group-requires Inv-loop μ-loop
 group-requires c κs =
     let l = c .before .before .before .before .before .loop in
@@ -95,12 +74,6 @@ add-at c =
     let l = c .before .before .before .before .before .before .before .before .loop in
     let s = c .before .before .before .before .before .before .before .before .before .before in
     omega (arith, l .inv .1 .0, leads-length (labelIn (s .args .t2)) (l .i))
-
-add-i : tie.Need-add-i Inv-loop μ-loop
-add-i c = omega arith
-
-loop-less : tie.Need-loop-less Inv-loop μ-loop
-loop-less c = omega arith
 
 loop-again : tie.Need-loop-again Inv-loop μ-loop
 loop-again c =
@@ -145,21 +118,6 @@ returns c =
 pub group-rows-spec : {M : Type 1} → statement M
 group-rows-spec =
     tie.close
-    (tie.spec
-    Inv-loop
-    μ-loop
-    loop-holds
-    mul-if1
-    array-read-if1
-    cast-if1
-    mul-run
-    array-copy-out-run
-    mul-group
-    array-copy-out-group
-    group-requires
-    add-at
-    add-i
-    loop-less
-    loop-again
-    same-length
-    returns)
+    (tie.spec Inv-loop μ-loop loop-holds (λ c. omega arith) (λ c. omega arith) (λ c. search needs) (λ c. omega arith)
+    (λ c. omega arith) (λ c. omega arith) (λ c. omega arith) group-requires add-at (λ c. omega arith) (λ c. omega arith)
+    loop-again same-length returns)

@@ -26,33 +26,6 @@ row n g objective a l₁ l₂ l₃ l₄ l₅ l₆ h e₁ e₂ e₃ e₄ e₅ e�
     let w₅ = behind-it w₄ (omega arith) (bytesOf 4 (24 + 16 * n)) e₅ refl (length-bytesOf 4 (24 + 16 * n)) in
     behind-it w₅ (omega arith) (signedBytes 8 objective) e₆ refl (length-signedBytes 8 objective) .is
 
-mark-requires : tie.Need-mark-requires
-mark-requires c κs = search needs
-
-put-requires : tie.Need-put-requires
-put-requires c κs = search needs
-
-put-requires-2 : tie.Need-put-requires-2
-put-requires-2 c κs = search needs
-
-put-requires-3 : tie.Need-put-requires-3
-put-requires-3 c κs = search needs
-
-mul-put : tie.Need-mul-put
-mul-put c = search needs
-
-add-put : tie.Need-add-put
-add-put c = search needs
-
-put-requires-4 : tie.Need-put-requires-4
-put-requires-4 c κs = search needs
-
-put-i64-requires : tie.Need-put-i64-requires
-put-i64-requires c κs = search needs
-
-same-length : tie.Need-same-length
-same-length c = search needs
-
 returns : tie.Need-returns
 returns c =
     let q6 = c .before .before in
@@ -74,14 +47,5 @@ returns c =
 pub header-spec : {M : Type 1} → statement M
 header-spec =
     tie.close
-    (tie.spec
-    mark-requires
-    put-requires
-    put-requires-2
-    put-requires-3
-    mul-put
-    add-put
-    put-requires-4
-    put-i64-requires
-    same-length
-    returns)
+    (tie.spec (search needs) (search needs) (search needs) (search needs) (search needs) (search needs) (search needs)
+    (search needs) (search needs) returns)

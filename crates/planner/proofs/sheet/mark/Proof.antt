@@ -19,32 +19,11 @@ marked (x ∷ y ∷ []) h = absurd (omega arith)
 marked (x ∷ y ∷ z ∷ []) h = absurd (omega arith)
 marked (x ∷ y ∷ z ∷ w ∷ a) h = refl
 
-array-read-area : tie.Need-array-read-area
-array-read-area c = search needs
-
-slice-write-area : tie.Need-slice-write-area
-slice-write-area c = search needs
-
-array-read-area-2 : tie.Need-array-read-area-2
-array-read-area-2 c = search needs
-
 slice-write-area-2 : tie.Need-slice-write-area-2
 slice-write-area-2 c = omega (arith, length-set (c .args .area .now) 0 65, c .pre)
 
-array-read-area-3 : tie.Need-array-read-area-3
-array-read-area-3 c = search needs
-
 slice-write-area-3 : tie.Need-slice-write-area-3
 slice-write-area-3 c = omega (arith, length-set (set (c .args .area .now) 0 65) 1 78, length-set (c .args .area .now) 0 65, c .pre)
-
-array-read-area-4 : tie.Need-array-read-area-4
-array-read-area-4 c = search needs
-
-slice-write-area-4 : tie.Need-slice-write-area-4
-slice-write-area-4 c = search needs
-
-same-length : tie.Need-same-length
-same-length c = search needs
 
 returns : tie.Need-returns
 returns c = marked (c .args .area .now) (c .pre)
@@ -52,14 +31,5 @@ returns c = marked (c .args .area .now) (c .pre)
 pub mark-spec : {M : Type 1} → statement M
 mark-spec =
     tie.close
-    (tie.spec
-    array-read-area
-    slice-write-area
-    array-read-area-2
-    slice-write-area-2
-    array-read-area-3
-    slice-write-area-3
-    array-read-area-4
-    slice-write-area-4
-    same-length
-    returns)
+    (tie.spec (search needs) (search needs) (search needs) slice-write-area-2 (search needs) slice-write-area-3
+    (search needs) (λ c. search needs) (search needs) returns)

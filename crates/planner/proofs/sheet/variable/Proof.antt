@@ -38,38 +38,17 @@ row at number r group a l₁ l₂ l₃ l₄ l₅ h e₁ e₂ e₃ e₄ e₅ =
 put-i32-requires : tie.Need-put-i32-requires
 put-i32-requires c κs = let s = c .before .before in (omega arith, asked (omega arith) (s .pre .1 .0) (toZ-ofZ (s .fits .number)))
 
-add-put-i32 : tie.Need-add-put-i32
-add-put-i32 c = search needs
-
 put-i32-requires-2 : tie.Need-put-i32-requires-2
 put-i32-requires-2 c κs =
     let s = c .before .before .before .before .before .before .before in
     let f = s .pre .1 .1 in
     (search needs, asked (omega arith) (first-within f) (held-first (crossable f)))
 
-add-put-i32-2 : tie.Need-add-put-i32-2
-add-put-i32-2 c = search needs
-
 put-i32-requires-3 : tie.Need-put-i32-requires-3
 put-i32-requires-3 c κs =
     let s = c .before .before .before .before .before .before .before .before .before .before .before .before in
     let f = s .pre .1 .1 in
     (search needs, asked (omega arith) (step-within f) (held-step (crossable f)))
-
-add-put : tie.Need-add-put
-add-put c = search needs
-
-put-requires : tie.Need-put-requires
-put-requires c κs = search needs
-
-add-put-2 : tie.Need-add-put-2
-add-put-2 c = search needs
-
-put-requires-2 : tie.Need-put-requires-2
-put-requires-2 c κs = search needs
-
-same-length : tie.Need-same-length
-same-length c = search needs
 
 returns : tie.Need-returns
 returns c =
@@ -91,15 +70,5 @@ returns c =
 pub variable-spec : {M : Type 1} → statement M
 variable-spec =
     tie.close
-    (tie.spec
-    put-i32-requires
-    add-put-i32
-    put-i32-requires-2
-    add-put-i32-2
-    put-i32-requires-3
-    add-put
-    put-requires
-    add-put-2
-    put-requires-2
-    same-length
-    returns)
+    (tie.spec put-i32-requires (search needs) put-i32-requires-2 (search needs) put-i32-requires-3 (search needs)
+    (search needs) (search needs) (search needs) (search needs) returns)

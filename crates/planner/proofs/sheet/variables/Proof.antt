@@ -46,30 +46,6 @@ loop-holds c =
     let x = c .before .args in
     (omega arith, sym (ap (λ b. over 24 b (x .area .now)) (variables-none (number (x .t3)) (runIn (x .t2)) (λ k. getD (x .t4) k 0)) ∙ over-none 24 (x .area .now) (omega arith)))
 
-mul-run : tie.Need-mul-run Inv-loop μ-loop
-mul-run c = omega arith
-
-array-copy-out-run : tie.Need-array-copy-out-run Inv-loop μ-loop
-array-copy-out-run c = omega arith
-
-mul-variable : tie.Need-mul-variable Inv-loop μ-loop
-mul-variable c = omega arith
-
-add-variable : tie.Need-add-variable Inv-loop μ-loop
-add-variable c = omega arith
-
-mul-variable-2 : tie.Need-mul-variable-2 Inv-loop μ-loop
-mul-variable-2 c = omega arith
-
-array-copy-out-variable : tie.Need-array-copy-out-variable Inv-loop μ-loop
-array-copy-out-variable c = omega arith
-
-mul-variable-3 : tie.Need-mul-variable-3 Inv-loop μ-loop
-mul-variable-3 c = omega arith
-
-array-read-variable : tie.Need-array-read-variable Inv-loop μ-loop
-array-read-variable c = omega arith
-
 variable-requires : tie.Need-variable-requires Inv-loop μ-loop
 variable-requires c κs =
     let l = c .before .before .before .before .loop in
@@ -79,12 +55,6 @@ variable-requires c κs =
       omega (arith, kept (x .t2) (x .t3) (x .t4) (x .area .now) (l .area) (x .n) (l .i) (omega arith) (s .pre .1 .0) (l .inv .1)),
       (subst (Within 1000000000) (sym (held-within (omega arith) w)) w, s .pre .1 .1 .0 .at (l .i) (omega arith)),
     )
-
-add-i : tie.Need-add-i Inv-loop μ-loop
-add-i c = omega arith
-
-loop-less : tie.Need-loop-less Inv-loop μ-loop
-loop-less c = omega arith
 
 loop-again : tie.Need-loop-again Inv-loop μ-loop
 loop-again c =
@@ -115,21 +85,6 @@ returns c =
 pub variables-spec : {M : Type 1} → statement M
 variables-spec =
     tie.close
-    (tie.spec
-    Inv-loop
-    μ-loop
-    loop-holds
-    mul-run
-    array-copy-out-run
-    mul-variable
-    add-variable
-    mul-variable-2
-    array-copy-out-variable
-    mul-variable-3
-    array-read-variable
-    variable-requires
-    add-i
-    loop-less
-    loop-again
-    same-length
-    returns)
+    (tie.spec Inv-loop μ-loop loop-holds (λ c. omega arith) (λ c. omega arith) (λ c. omega arith) (λ c. omega arith)
+    (λ c. omega arith) (λ c. omega arith) (λ c. omega arith) (λ c. omega arith) variable-requires (λ c. omega arith)
+    (λ c. omega arith) loop-again same-length returns)

@@ -54,9 +54,6 @@ module _ (labels : List ℕ) (runs : List Run) (slopes numbers : List ℤ) (n g 
       behind-it w₂ (omega arith) groupRows (over-lent (24 + 16 * n) groupRows l₂ l₃ (omega (arith, long)) e₃) (omega arith)
       (length-groups (runIn runs) (chosenIn runs slopes) (number slopes) (leadsBy (labelIn labels) n)) .is
 
-numbers-requires : tie.Need-numbers-requires
-numbers-requires c κs = search needs
-
 header-requires : tie.Need-header-requires
 header-requires c κs =
     let s = c .before .before .before in
@@ -87,21 +84,6 @@ after-variables c =
     let p = s .pre .1 .1 .1 .1 .1 in
     second-long (x .labels) (x .runs) (x .slopes) (x .numbers) (x .n) (x .g) (x .objective) (p .0) _ _ _ (omega (arith, after-header q1, p .1)) (c .variables .ensures) ∙ after-header q1
 
-mul-rows : tie.Need-mul-rows
-mul-rows c = search needs
-
-add-rows : tie.Need-add-rows
-add-rows c = search needs
-
-sub-group-rows : tie.Need-sub-group-rows
-sub-group-rows c = search needs
-
-part-group-rows-start : tie.Need-part-group-rows-start
-part-group-rows-start c = search needs
-
-part-group-rows-end : tie.Need-part-group-rows-end
-part-group-rows-end c = search needs
-
 -- the part from the groups' rows on
 lent : (c : tie.After-variables) → let x = c .before .before .before .before .before .before .before .before .args in
     length (midOf (24 + 16 * x .n) (length (c .variables .last .0) - (24 + 16 * x .n)) (c .variables .last .0)) ≡ length (x .area .now) - (24 + 16 * x .n)
@@ -116,9 +98,6 @@ group-rows-requires c κs =
     let s = c .before .before .before .before .before .before .before .before .before .before .before in
     let p = s .pre .1 .1 .1 in
     (s .pre .0, (omega (arith, p .1 .1 .0, p .1 .1 .1, lent (c .before .before .before)), p .0))
-
-same-length : tie.Need-same-length
-same-length c = search needs
 
 returns : tie.Need-returns
 returns c =
@@ -139,15 +118,5 @@ returns c =
 pub write-spec : {M : Type 1} → statement M
 write-spec =
     tie.close
-    (tie.spec
-    numbers-requires
-    header-requires
-    variables-requires
-    mul-rows
-    add-rows
-    sub-group-rows
-    part-group-rows-start
-    part-group-rows-end
-    group-rows-requires
-    same-length
-    returns)
+    (tie.spec (λ c κs. search needs) header-requires variables-requires (search needs) (search needs) (search needs)
+    (search needs) (search needs) group-rows-requires (search needs) returns)

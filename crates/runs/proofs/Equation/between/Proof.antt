@@ -6,16 +6,10 @@ use Rattle.runs.proofs.Intervals.{same-interval}
 use Rattle.runs.proofs.Equation.between.Statement.{statement}
 use Rattle.runs.proofs.Equation.between.Tie as tie
 
-partner-value-requires : tie.Need-partner-value-requires
-partner-value-requires c κs = search needs
-
 ceiling-requires : tie.Need-ceiling-requires
 ceiling-requires c κs =
     let s = c .before .before in
     divided-asked (s .pre .0) (s .pre .1 .0) (c .before .partner-value .result) (c .before .partner-value .ensures)
-
-partner-value-requires-2 : tie.Need-partner-value-requires-2
-partner-value-requires-2 c κs = search needs
 
 quotient-requires : tie.Need-quotient-requires
 quotient-requires c κs =
@@ -33,4 +27,4 @@ returns c =
     (divided-is (s .pre .0) (s .pre .1 .1) (v .partner-value2 .result) (v .partner-value2 .ensures) floorDiv (c .quotient .result) record { sfits = c .quotient .ok } (c .quotient .ensures))
 
 pub between-spec : {M : Type 1} → statement M
-between-spec = tie.close (tie.spec partner-value-requires ceiling-requires partner-value-requires-2 quotient-requires returns)
+between-spec = tie.close (tie.spec (λ c κs. search needs) ceiling-requires (λ c. search needs) quotient-requires returns)

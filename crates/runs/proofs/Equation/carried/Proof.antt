@@ -47,9 +47,6 @@ numbers-at-requires c κs = let (k, E) = c .pre in (k .form, (k .some, carry-pla
 span-requires : tie.Need-span-requires
 span-requires c κs = let k = c .before .before .pre .0 in (k .form, k .some)
 
-empty-requires : tie.Need-empty-requires
-empty-requires c κs = search needs
-
 returns : tie.Need-returns
 returns c =
     let l = c .before .before .before .before in
@@ -62,9 +59,6 @@ partners-requires c κs =
     let l = c .before .before .before in
     let n = l .before .before in
     (n .before .pre .0, (n .before .pre .1, room (n .before .pre) (n .numbers-at .result) (n .numbers-at .ensures) record { sfits = l .before .struct-told .given .0 .1 } (l .span .result) (l .span .ensures) (c .if1 .left)))
-
-image-in-range-requires : tie.Need-image-in-range-requires
-image-in-range-requires c κs = search needs
 
 clip-requires : tie.Need-clip-requires
 clip-requires c κs =
@@ -86,4 +80,4 @@ returns-2 c =
 pub carried-spec : {M : Type 1} → statement M
 carried-spec =
     tie.close
-    (tie.spec numbers-at-requires span-requires empty-requires returns partners-requires image-in-range-requires clip-requires returns-2)
+    (tie.spec numbers-at-requires span-requires (search needs) returns partners-requires (λ c κs. search needs) clip-requires returns-2)

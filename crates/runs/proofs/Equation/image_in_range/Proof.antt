@@ -24,14 +24,8 @@ span-requires c κs = (c .pre .form, c .pre .some)
 image-requires : tie.Need-image-requires
 image-requires c κs = let k = c .before .pre in (k .limits, ends-asked k (c .span .result) (c .span .ensures))
 
-full-requires : tie.Need-full-requires
-full-requires c κs = search needs
-
 span-requires-2 : tie.Need-span-requires-2
 span-requires-2 c κs = full-asked (c .full .result) (c .full .ensures)
-
-common-requires : tie.Need-common-requires
-common-requires c κs = search needs
 
 returns : tie.Need-returns
 returns c =
@@ -41,4 +35,4 @@ returns c =
     c .common .ensures ∙ ap₂ common (i .image .ensures ∙ ap (image (l .before .args .self)) (l .span .ensures)) (c .before .span2 .ensures ∙ ap span (f .full .ensures))
 
 pub image-in-range-spec : {M : Type 1} → statement M
-image-in-range-spec = tie.close (tie.spec span-requires image-requires full-requires span-requires-2 common-requires returns)
+image-in-range-spec = tie.close (tie.spec span-requires image-requires (search needs) span-requires-2 (search needs) returns)

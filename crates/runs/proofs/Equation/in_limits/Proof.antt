@@ -11,15 +11,6 @@ use Rattle.runs.specs.Workings.{isCoefficient}
 use Rattle.runs.proofs.Equation.in_limits.Statement.{statement}
 use Rattle.runs.proofs.Equation.in_limits.Tie as tie
 
-is-coefficient-requires : tie.Need-is-coefficient-requires
-is-coefficient-requires c κs = search needs
-
-is-coefficient-requires-2 : tie.Need-is-coefficient-requires-2
-is-coefficient-requires-2 c κs = search needs
-
-is-within-requires : tie.Need-is-within-requires
-is-within-requires c κs = search needs
-
 returns : tie.Need-returns
 returns c =
     let k = c .before .before .before in
@@ -54,10 +45,4 @@ returns-3 c =
 pub in-limits-spec : {M : Type 1} → statement M
 in-limits-spec =
     tie.close
-    (tie.spec
-    is-coefficient-requires
-    is-coefficient-requires-2
-    is-within-requires
-    returns
-    returns-2
-    returns-3)
+    (tie.spec (search needs) (search needs) (search needs) returns returns-2 returns-3)

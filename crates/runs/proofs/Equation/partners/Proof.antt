@@ -51,9 +51,6 @@ quotient-requires c κs =
     let n = v .before .before in
     limits-asked (n .before .pre) (n .numbers-at .result) (n .numbers-at .ensures) (v .partner-value .result) (v .partner-value .ensures)
 
-step-of-requires : tie.Need-step-of-requires
-step-of-requires c κs = search needs
-
 returns : tie.Need-returns
 returns c =
     let g = c .before in
@@ -64,4 +61,4 @@ returns c =
     (toZ-ofZ record { sfits = c .step-of .ok } ∙ c .step-of .ensures)
 
 pub partners-spec : {M : Type 1} → statement M
-partners-spec = tie.close (tie.spec numbers-at-requires partner-value-requires quotient-requires step-of-requires returns)
+partners-spec = tie.close (tie.spec numbers-at-requires partner-value-requires quotient-requires (λ c κs. search needs) returns)

@@ -42,9 +42,6 @@ module _ (e : Equation) (q : Run) (p : CarryLimits e × (OneForm q × (1 ≤ q .
   v-is : (v : ℤ) → SFits w64 v → v ≡ partnerValue e (held (q .first)) → held v ≡ partnerValue e (q .first)
   v-is v fits d = toZ-ofZ fits ∙ d ∙ ap (partnerValue e) (toZ-ofZ (fits-q (p .0) first))
 
-stride-requires : tie.Need-stride-requires
-stride-requires c κs = search needs
-
 mul-t4 : tie.Need-mul-t4
 mul-t4 c =
     let k = c .before .before in
@@ -68,4 +65,4 @@ returns c =
     (toZ-ofZ (fits-a (s .pre .0)))
 
 pub places-spec : {M : Type 1} → statement M
-places-spec = tie.close (tie.spec stride-requires mul-t4 partner-value-requires returns)
+places-spec = tie.close (tie.spec (search needs) mul-t4 partner-value-requires returns)

@@ -73,16 +73,10 @@ module _ {e : Equation} {q : Run} {j : Class} (p : Carriable e q × AllSolutions
             let h′ : r ≡ floorDiv (held (pos n *ℤ t)) (held g) = rw (n-cast, toZ-ofZ fits-t) at h in
             toZ-ofZ fits ∙ answered limits-g floorDiv h′ ∙ rw (n-is, t-is, g-is) refl
 
-size-requires : tie.Need-size-requires
-size-requires c κs = search needs
-
 cast-quotient : tie.Need-cast-quotient
 cast-quotient c =
     let w = n-small (c .before .before .pre) (c .size .result) (c .size .ensures) in
     lin (pos (c .size .result) ∷ []) w (search signed depth 20) (omega arith)
-
-stride-requires : tie.Need-stride-requires
-stride-requires c κs = search needs
 
 mul-quotient : tie.Need-mul-quotient
 mul-quotient c =
@@ -107,4 +101,4 @@ returns c =
     (c .quotient2 .result) record { sfits = c .quotient2 .ok } (c .quotient2 .ensures)
 
 pub step-of-spec : {M : Type 1} → statement M
-step-of-spec = tie.close (tie.spec size-requires cast-quotient stride-requires mul-quotient quotient-requires quotient-requires-2 returns)
+step-of-spec = tie.close (tie.spec (search needs) cast-quotient (search needs) mul-quotient quotient-requires quotient-requires-2 returns)

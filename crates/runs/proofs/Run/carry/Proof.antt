@@ -61,17 +61,11 @@ module _ (c : lts.After-solve claims reads.Pre reads.Post) where
 reach-asked : (s t : Congruence) → s ≡ t → InReach t → InReach s
 reach-asked s t eq h = rw eq h
 
-empty-requires : tie.Need-empty-requires
-empty-requires c κs = search needs
-
 returns : tie.Need-returns
 returns c =
     let s = c .before .before .before in
     let e = s .args .e in
     c .empty .ensures ∙ is-carry (empty-carried (e .a) (e .b) (e .c) (c .before .if1 .taken))
-
-upright-requires : tie.Need-upright-requires
-upright-requires c κs = search needs
 
 places-requires : tie.Need-places-requires
 places-requires c κs = let k = carriable c in (k .limits, (k .form, k .some))
@@ -80,15 +74,6 @@ solve-requires : tie.Need-solve-requires
 solve-requires c κs =
     let u = c .before in
     reach-asked (c .places .result) (placesWithPartner (up u) (q u)) (c .places .ensures) (places-reach (carriable u))
-
-enum-told : tie.Need-enum-told
-enum-told c = search needs
-
-empty-requires-2 : tie.Need-empty-requires-2
-empty-requires-2 c κs = search needs
-
-enum-known-solutions : tie.Need-enum-known-solutions
-enum-known-solutions c = search needs
 
 carried-requires : tie.Need-carried-requires
 carried-requires c κs =
@@ -108,15 +93,5 @@ returns-3 c =
 pub carry-spec : {M : Type 1} → statement M
 carry-spec =
     tie.close
-    (tie.spec
-    empty-requires
-    returns
-    upright-requires
-    places-requires
-    solve-requires
-    enum-told
-    empty-requires-2
-    enum-known-solutions
-    carried-requires
-    returns-2
-    returns-3)
+    (tie.spec (search needs) returns (λ c κs. search needs) places-requires solve-requires (search needs) (search needs)
+    (search needs) carried-requires returns-2 returns-3)

@@ -68,12 +68,6 @@ module _ (c : lts.After-struct-told (is-rising-reads.Asked, is-rising-reads.Lear
   step-fits : SFits w64 (r .step)
   step-fits = record { sfits = c .struct-told .given .1 .0 .1 }
 
-is-rising-requires : tie.Need-is-rising-requires
-is-rising-requires c κs = search needs
-
-returns : tie.Need-returns
-returns c = search needs
-
 returns-2 : tie.Need-returns-2
 returns-2 c = let k = c .before in moving (r k) (few k) (first-fits k) (step-fits k) (c .if2 .taken)
 
@@ -83,9 +77,6 @@ returns-3 c =
     let e = t .before .before in
     let k = e .before in
     empty-is (r k) (few k) (first-fits k) (step-fits k) (e .if2 .left) (t .if3 .taken)
-
-is-within-requires : tie.Need-is-within-requires
-is-within-requires c κs = search needs
 
 returns-4 : tie.Need-returns-4
 returns-4 c =
@@ -97,4 +88,4 @@ returns-4 c =
 pub is-one-form-spec : {M : Type 1} → statement M
 is-one-form-spec =
     tie.close
-    (tie.spec is-rising-requires returns returns-2 returns-3 is-within-requires returns-4)
+    (tie.spec (search needs) (λ c. search needs) returns-2 returns-3 (search needs) returns-4)

@@ -114,9 +114,6 @@ returns c = let k = c .before in flat (s k .args .self) (s k .pre) (first-fits k
 returns-2 : tie.Need-returns-2
 returns-2 c = let k = c .before .before .before .before in steep (s k .args .self) (s k .pre) (first-fits k) (step-fits k) (many-fits k) (c .if2 .taken)
 
-is-within-requires : tie.Need-is-within-requires
-is-within-requires c κs = search needs
-
 -- past the third test
 module _ (c : lts.Then3 claims reads.Pre reads.Post) where
   abbrev e : lts.Else2 claims reads.Pre reads.Post
@@ -127,9 +124,6 @@ module _ (c : lts.Then3 claims reads.Pre reads.Post) where
 
   inside : isWithin bound (s k .args .self .first) ≡ true
   inside = told (isWithin bound) (first-fits k) (c .before .is-within .ensures) (c .if3 .taken)
-
-cast-is-within : tie.Need-cast-is-within
-cast-is-within c = search needs
 
 sub-is-within : tie.Need-sub-is-within
 sub-is-within c =
@@ -146,9 +140,6 @@ add-is-within c =
     let t = c .before .before .before .before .before in
     last-asked (s (k t) .args .self) (s (k t) .pre) (first-fits (k t)) (step-fits (k t)) (many-fits (k t)) (e t .before .before .before .if1 .left) (e t .if2 .left) (inside t)
 
-is-within-requires-2 : tie.Need-is-within-requires-2
-is-within-requires-2 c κs = search needs
-
 returns-3 : tie.Need-returns-3
 returns-3 c =
     let t = c .before .before .before .before .before .before in
@@ -164,14 +155,5 @@ returns-4 c =
 pub is-rising-spec : {M : Type 1} → statement M
 is-rising-spec =
     tie.close
-    (tie.spec
-    returns
-    returns-2
-    is-within-requires
-    cast-is-within
-    sub-is-within
-    mul-is-within
-    add-is-within
-    is-within-requires-2
-    returns-3
-    returns-4)
+    (tie.spec returns returns-2 (search needs) (search needs) sub-is-within mul-is-within add-is-within (search needs)
+    returns-3 returns-4)

@@ -73,16 +73,10 @@ module _ (c : lts.After-solutions claims reads.Pre reads.Post) where
   every : AllSolutions (placesIn (a q) (b q)) i
   every = subst (Solves (placesIn (a q) (b q))) (c .solutions .given .1) (solves (c .before .before))
 
-empty-requires : tie.Need-empty-requires
-empty-requires c κs = search needs
-
 returns : tie.Need-returns
 returns c =
     let s = c .before .before .before in
     c .empty .ensures ∙ is-meet (s .pre .0) (empty-left (s .args .other) (c .before .if1 .taken))
-
-empty-requires-2 : tie.Need-empty-requires-2
-empty-requires-2 c κs = search needs
 
 returns-2 : tie.Need-returns-2
 returns-2 c =
@@ -95,26 +89,8 @@ places-in-requires c κs = (form c, (some c, (form′ c, some′ c)))
 solve-requires : tie.Need-solve-requires
 solve-requires c κs = let p = c .before in asked (c .places-in .result) (placesIn (a p) (b p)) (c .places-in .ensures) (places-in-reach (form p) (form′ p) (some p) (some′ p))
 
-enum-told : tie.Need-enum-told
-enum-told c = search needs
-
-empty-requires-3 : tie.Need-empty-requires-3
-empty-requires-3 c κs = search needs
-
-enum-known-solutions : tie.Need-enum-known-solutions
-enum-known-solutions c = search needs
-
 numbers-at-requires : tie.Need-numbers-at-requires
 numbers-at-requires c κs = let k = c .before in let p = q k in (form p, (some p, meet-places (form p) (form′ p) (some p) (some′ p) (i k) (every k)))
-
-span-requires : tie.Need-span-requires
-span-requires c κs = search needs
-
-span-requires-2 : tie.Need-span-requires-2
-span-requires-2 c κs = search needs
-
-common-requires : tie.Need-common-requires
-common-requires c κs = search needs
 
 -- what the calls before `clip` gave
 module _ (c : lts.After-common claims reads.Pre reads.Post) where
@@ -144,20 +120,6 @@ returns-4 c =
 pub meet-spec : {M : Type 1} → statement M
 meet-spec =
     tie.close
-    (tie.spec
-    empty-requires
-    returns
-    empty-requires-2
-    returns-2
-    places-in-requires
-    solve-requires
-    enum-told
-    empty-requires-3
-    enum-known-solutions
-    numbers-at-requires
-    span-requires
-    span-requires-2
-    common-requires
-    clip-requires
-    returns-3
-    returns-4)
+    (tie.spec (search needs) returns (search needs) returns-2 places-in-requires solve-requires (search needs)
+    (search needs) (search needs) numbers-at-requires (λ c κs. search needs) (λ c κs. search needs) (search needs)
+    clip-requires returns-3 returns-4)

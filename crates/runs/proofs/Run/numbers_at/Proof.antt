@@ -69,9 +69,6 @@ module _ (r : Run) (i : Class) (p : OneForm r × ((1 ≤ r .many) × Places i)) 
   class-is : record { first = held (held (r .first) +ℤ held (held s *ℤ held (i .first))); step = held (held s *ℤ held (i .step)) } ≡ numbersAt r i
   class-is = rw (toZ-ofZ start-asked, toZ-ofZ stride-asked, toZ-ofZ fits-first, toZ-ofZ way-asked, toZ-ofZ fits-s, toZ-ofZ fits-place, toZ-ofZ fits-period) (ap (λ t. record { first = r .first +ℤ t *ℤ i .first; step = t *ℤ i .step }) is)
 
-stride-requires : tie.Need-stride-requires
-stride-requires c κs = search needs
-
 mul-t4 : tie.Need-mul-t4
 mul-t4 c = let k = c .before .before in let s = k .before in way-asked (s .args .self) (s .args .places) (s .pre) (k .stride .result) (k .stride .ensures)
 
@@ -85,4 +82,4 @@ returns : tie.Need-returns
 returns c = let k = c .before .before .before .before .before .before in let s = k .before in class-is (s .args .self) (s .args .places) (s .pre) (k .stride .result) (k .stride .ensures)
 
 pub numbers-at-spec : {M : Type 1} → statement M
-numbers-at-spec = tie.close (tie.spec stride-requires mul-t4 add-t5 mul-t6 returns)
+numbers-at-spec = tie.close (tie.spec (search needs) mul-t4 add-t5 mul-t6 returns)

@@ -30,14 +30,8 @@ module _ (a b : Run) (p : OneForm a × ((1 ≤ a .many) × (OneForm b × (1 ≤ 
   apart-is : held (held (b .first) -ℤ held (a .first)) ≡ b .first -ℤ a .first
   apart-is = toZ-ofZ apart-asked ∙ ap₂ _-ℤ_ (toZ-ofZ fits-b) (toZ-ofZ fits-a)
 
-stride-requires : tie.Need-stride-requires
-stride-requires c κs = search needs
-
 sub-t4 : tie.Need-sub-t4
 sub-t4 c = let s = c .before .before .before .before .before in apart-asked (s .args .self) (s .args .other) (s .pre)
-
-stride-requires-2 : tie.Need-stride-requires-2
-stride-requires-2 c κs = search needs
 
 returns : tie.Need-returns
 returns c =
@@ -48,4 +42,4 @@ returns c =
     same-congruence (toZ-ofZ fits-one ∙ k .stride .ensures) (apart-is (s .args .self) (s .args .other) (s .pre)) (toZ-ofZ fits-two ∙ c .stride2 .ensures)
 
 pub places-in-spec : {M : Type 1} → statement M
-places-in-spec = tie.close (tie.spec stride-requires sub-t4 stride-requires-2 returns)
+places-in-spec = tie.close (tie.spec (search needs) sub-t4 (search needs) returns)

@@ -38,9 +38,6 @@ module _ (r : Run) (p : OneForm r × (1 ≤ r .many)) where
   fits-last : SFits w64 (r .first +ℤ r .step *ℤ m)
   fits-last = lin ρ (last-within (p .0) (p .1)) (search signed depth 20) (omega arith)
 
-cast-t2 : tie.Need-cast-t2
-cast-t2 c = search needs
-
 sub-t3 : tie.Need-sub-t3
 sub-t3 c = let s = c .before in rw (many-is (s .args .self) (s .pre)) (fits-m (s .args .self) (s .pre))
 
@@ -63,4 +60,4 @@ returns c =
     rw (many-is r (s .pre), toZ-ofZ (fits-first r (s .pre)), toZ-ofZ (fits-step r (s .pre)), toZ-ofZ (fits-m r (s .pre)), toZ-ofZ (fits-p r (s .pre)), toZ-ofZ (fits-last r (s .pre))) refl
 
 pub span-spec : {M : Type 1} → statement M
-span-spec = tie.close (tie.spec cast-t2 sub-t3 mul-t4 add-t5 returns)
+span-spec = tie.close (tie.spec (search needs) sub-t3 mul-t4 add-t5 returns)

@@ -17,9 +17,6 @@ several : (f s : ℤ) (n : ℕ) → (n ≡ 0 → ⊥) → record { first = f; st
 several f s zero h = absurd (h refl)
 several f s (suc n) h = same-run refl refl (omega arith)
 
-add-t6 : tie.Need-add-t6
-add-t6 c = search needs
-
 returns : tie.Need-returns
 returns c = let s = c .before in rw (toZ-ofZ (s .fits .first)) (single (s .args .first) (s .args .step) (s .args .more) (c .if1 .taken))
 
@@ -29,4 +26,4 @@ returns-2 c =
     rw (toZ-ofZ (s .fits .first), toZ-ofZ (s .fits .step)) (several (s .args .first) (s .args .step) (s .args .more) (c .if1 .left))
 
 pub progression-spec : {M : Type 1} → statement M
-progression-spec = tie.close (tie.spec add-t6 returns returns-2)
+progression-spec = tie.close (tie.spec (search needs) returns returns-2)

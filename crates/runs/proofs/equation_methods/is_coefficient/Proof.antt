@@ -8,9 +8,6 @@ use Rattle.ints.proofs.Signed.{bits-zero, told}
 use Rattle.runs.proofs.equation_methods.is_coefficient.Statement.{statement}
 use Rattle.runs.proofs.equation_methods.is_coefficient.Tie as tie
 
-is-within-requires : tie.Need-is-within-requires
-is-within-requires c κs = search needs
-
 returns : tie.Need-returns
 returns c =
     let s = c .before .before in
@@ -24,4 +21,4 @@ returns-2 c =
     rw outside
 
 pub is-coefficient-spec : {M : Type 1} → statement M
-is-coefficient-spec = tie.close (tie.spec is-within-requires returns returns-2)
+is-coefficient-spec = tie.close (tie.spec (search needs) returns returns-2)

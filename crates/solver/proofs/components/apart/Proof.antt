@@ -16,21 +16,6 @@ abbrev μ-loop : tie.MeasureT-loop
 loop-holds : tie.Need-loop-holds Inv-loop μ-loop
 loop-holds c = (omega arith, unfilled 0 (λ k. k) _ (search needs))
 
-cast-labels : tie.Need-cast-labels Inv-loop μ-loop
-cast-labels c = search needs
-
-mul-labels : tie.Need-mul-labels Inv-loop μ-loop
-mul-labels c = omega arith
-
-array-write-labels : tie.Need-array-write-labels Inv-loop μ-loop
-array-write-labels c = omega arith
-
-add-i : tie.Need-add-i Inv-loop μ-loop
-add-i c = omega arith
-
-loop-less : tie.Need-loop-less Inv-loop μ-loop
-loop-less c = omega arith
-
 loop-again : tie.Need-loop-again Inv-loop μ-loop
 loop-again c = let l = c .before .loop in (omega arith, filled 0 (λ k. k) (l .i) (l .labels) (l .inv .1) (l .i) (omega arith) refl)
 
@@ -40,14 +25,5 @@ returns c = let l = c .before .loop in record { at = λ i h. l .inv .1 .done i (
 pub apart-spec : {M : Type 1} → statement M
 apart-spec =
     tie.close
-    (tie.spec
-    Inv-loop
-    μ-loop
-    loop-holds
-    cast-labels
-    mul-labels
-    array-write-labels
-    add-i
-    loop-less
-    loop-again
-    returns)
+    (tie.spec Inv-loop μ-loop loop-holds (search needs) (λ c. omega arith) (λ c. omega arith) (λ c. omega arith)
+    (λ c. omega arith) loop-again returns)

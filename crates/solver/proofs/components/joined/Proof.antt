@@ -6,15 +6,6 @@ use borrow.Author.Needs.{needs}
 use Rattle.solver.proofs.components.joined.Statement.{statement}
 use Rattle.solver.proofs.components.joined.Tie as tie
 
-renamed-requires : tie.Need-renamed-requires
-renamed-requires c κs = search needs
-
-renamed-requires-2 : tie.Need-renamed-requires-2
-renamed-requires-2 c κs = search needs
-
-returns : tie.Need-returns
-returns c = search needs
-
 returns-2 : tie.Need-returns-2
 returns-2 c =
     let s = c .before .before in
@@ -22,4 +13,4 @@ returns-2 c =
     record { at = λ i h. m .at i h ∙ merged-swap (s .args .r) (s .args .l) (getD (s .args .labels) i 0) }
 
 pub joined-spec : {M : Type 1} → statement M
-joined-spec = tie.close (tie.spec renamed-requires renamed-requires-2 returns returns-2)
+joined-spec = tie.close (tie.spec (λ c κs. search needs) (λ c κs. search needs) (λ c. search needs) returns-2)

@@ -20,9 +20,6 @@ Inv-loop job n m labels₀ k₀ labels k = (k ≤ m) × ((length labels ≡ 256)
 abbrev μ-loop : tie.MeasureT-loop
 μ-loop job n m labels₀ k₀ labels k = m - k
 
-apart-requires : tie.Need-apart-requires Inv-loop μ-loop
-apart-requires c κs = search needs
-
 loop-holds : tie.Need-loop-holds Inv-loop μ-loop
 loop-holds c =
     let s = c .before .before in
@@ -85,21 +82,12 @@ mul-r c = let h : c .read .result .right < 256 = omega (arith, right-in c, n-mos
 array-read-r : tie.Need-array-read-r Inv-loop μ-loop
 array-read-r c = omega (arith, right-in c, n-most (s c .pre))
 
-joins-requires : tie.Need-joins-requires Inv-loop μ-loop
-joins-requires c κs = search needs
-
 joined-requires : tie.Need-joined-requires Inv-loop μ-loop
 joined-requires c κs =
     let a = c .before .before in (
       n-most (s a .pre),
       (omega (arith, labelled a .at (a .read .result .left) (left-in a), left-in a), (omega (arith, labelled a .at (a .read .result .right) (right-in a), right-in a), labelled a)),
     )
-
-add-k : tie.Need-add-k Inv-loop μ-loop
-add-k c = omega arith
-
-loop-less : tie.Need-loop-less Inv-loop μ-loop
-loop-less c = omega arith
 
 -- xs is what was made of the labels
 onward : (c : tie.After-read Inv-loop μ-loop) {xs ys : List ℕ} → xs ≡ ys → length ys ≡ 256 → Labels (jobOf (s c .args .job .now)) (suc (k c)) (s c .args .n) ys →
@@ -126,19 +114,5 @@ returns c =
 pub lowest-spec : {M : Type 1} → statement M
 lowest-spec =
     tie.close
-    (tie.spec
-    Inv-loop
-    μ-loop
-    apart-requires
-    loop-holds
-    read-requires
-    mul-l
-    array-read-l
-    mul-r
-    array-read-r
-    joins-requires
-    joined-requires
-    add-k
-    loop-less
-    loop-again
-    returns)
+    (tie.spec Inv-loop μ-loop (search needs) loop-holds read-requires mul-l array-read-l mul-r array-read-r
+    (search needs) joined-requires (λ c. omega arith) (λ c. omega arith) loop-again returns)

@@ -46,21 +46,6 @@ abbrev μ-loop : tie.MeasureT-loop
 loop-holds : tie.Need-loop-holds Inv-loop μ-loop
 loop-holds c = (omega arith, (sym (ap length (leads-none (labelIn (c .args .t1)))), unfilled 0 (componentBy (labelIn (c .args .t1)) (c .args .n)) _ (search needs)))
 
-mul-l : tie.Need-mul-l Inv-loop μ-loop
-mul-l c = omega arith
-
-array-read-l : tie.Need-array-read-l Inv-loop μ-loop
-array-read-l c = omega arith
-
-cast-l : tie.Need-cast-l Inv-loop μ-loop
-cast-l c = search needs
-
-mul-numbers : tie.Need-mul-numbers Inv-loop μ-loop
-mul-numbers c = omega arith
-
-array-write-numbers : tie.Need-array-write-numbers Inv-loop μ-loop
-array-write-numbers c = omega arith
-
 add-next : tie.Need-add-next Inv-loop μ-loop
 add-next c = let l = c .before .before .loop in let s = c .before .before .before in omega (arith, l .inv .1 .0, leads-length (labelIn (s .args .t1)) (l .i))
 
@@ -69,18 +54,6 @@ mul-numbers-2 c = let l = c .before .before .loop in let s = c .before .before .
 
 array-read-numbers : tie.Need-array-read-numbers Inv-loop μ-loop
 array-read-numbers c = let l = c .before .before .loop in let s = c .before .before .before in omega (arith, s .pre .1 .low (l .i) (omega arith))
-
-mul-numbers-3 : tie.Need-mul-numbers-3 Inv-loop μ-loop
-mul-numbers-3 c = omega arith
-
-array-write-numbers-2 : tie.Need-array-write-numbers-2 Inv-loop μ-loop
-array-write-numbers-2 c = omega arith
-
-add-i : tie.Need-add-i Inv-loop μ-loop
-add-i c = omega arith
-
-loop-less : tie.Need-loop-less Inv-loop μ-loop
-loop-less c = omega arith
 
 loop-again : tie.Need-loop-again Inv-loop μ-loop
 loop-again c =
@@ -110,21 +83,6 @@ returns c = let l = c .before .loop in record { at = λ k h. l .inv .1 .1 .done 
 pub numbers-spec : {M : Type 1} → statement M
 numbers-spec =
     tie.close
-    (tie.spec
-    Inv-loop
-    μ-loop
-    loop-holds
-    mul-l
-    array-read-l
-    cast-l
-    mul-numbers
-    array-write-numbers
-    add-next
-    mul-numbers-2
-    array-read-numbers
-    mul-numbers-3
-    array-write-numbers-2
-    add-i
-    loop-less
-    loop-again
-    returns)
+    (tie.spec Inv-loop μ-loop loop-holds (λ c. omega arith) (λ c. omega arith) (λ c. search needs) (λ c. omega arith)
+    (λ c. omega arith) add-next mul-numbers-2 array-read-numbers (λ c. omega arith) (λ c. omega arith)
+    (λ c. omega arith) (λ c. omega arith) loop-again returns)

@@ -47,9 +47,6 @@ module _ (v d : ℤ) (p : Within 10000000000000000 v × (Within 1000000000000000
 remainder-requires : tie.Need-remainder-requires
 remainder-requires c κs = asked (limits (c .args .value) (c .args .coefficient) (c .pre))
 
-empty-requires : tie.Need-empty-requires
-empty-requires c κs = search needs
-
 returns : tie.Need-returns
 returns c =
     let m = c .before .before in
@@ -59,9 +56,6 @@ returns c =
 
 quotient-requires : tie.Need-quotient-requires
 quotient-requires c κs = let s = c .before .before in asked (limits (s .args .value) (s .args .coefficient) (s .pre))
-
-in-range-requires : tie.Need-in-range-requires
-in-range-requires c κs = search needs
 
 returns-2 : tie.Need-returns-2
 returns-2 c =
@@ -74,10 +68,4 @@ returns-2 c =
 pub candidate-spec : {M : Type 1} → statement M
 candidate-spec =
     tie.close
-    (tie.spec
-    remainder-requires
-    empty-requires
-    returns
-    quotient-requires
-    in-range-requires
-    returns-2)
+    (tie.spec remainder-requires (search needs) returns quotient-requires (search needs) returns-2)

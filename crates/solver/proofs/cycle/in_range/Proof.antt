@@ -30,23 +30,14 @@ module _ (k : ℤ) (many : ℕ) (r : Run) (f : SFits w64 k) (small : many < 4294
   found : r ≡ record { first = held k; step = pos 0; many = 1 } → ltZ (held k) (pos 0) ≡ false → ltZ (held k) (toZ w64 many) ≡ true → r ≡ inRange k many
   found e t u = rw (below (pos 0) t, in-many u) (e ∙ rw (toZ-ofZ f) refl)
 
-empty-requires : tie.Need-empty-requires
-empty-requires c κs = search needs
-
 returns : tie.Need-returns
 returns c = let s = c .before .before in negative (s .args .k) (s .args .many) (c .empty .result) (s .fits .k) (search needs) (c .empty .ensures) (c .before .if1 .taken)
 
-cast-if2 : tie.Need-cast-if2
-cast-if2 c = search needs
-
 returns-2 : tie.Need-returns-2
 returns-2 c = let s = c .before .before in found (s .args .k) (s .args .many) _ (s .fits .k) (search needs) refl (c .before .if1 .left) (c .if2 .taken)
-
-empty-requires-2 : tie.Need-empty-requires-2
-empty-requires-2 c κs = search needs
 
 returns-3 : tie.Need-returns-3
 returns-3 c = let s = c .before .before .before in past (s .args .k) (s .args .many) (c .empty2 .result) (s .fits .k) (search needs) (c .empty2 .ensures) (c .before .before .if1 .left) (c .before .if2 .left)
 
 pub in-range-spec : {M : Type 1} → statement M
-in-range-spec = tie.close (tie.spec empty-requires returns cast-if2 returns-2 empty-requires-2 returns-3)
+in-range-spec = tie.close (tie.spec (search needs) returns (search needs) returns-2 (search needs) returns-3)

@@ -134,9 +134,6 @@ candidate-requires c κs = candidate-asked (known (c .before .before .before)) (
 returns : tie.Need-returns
 returns c = let t = c .before in leaves (known (t .before .before .before)) (t .if1 .taken) (c .candidate .result) (c .candidate .ensures)
 
-empty-requires : tie.Need-empty-requires
-empty-requires c κs = search needs
-
 returns-2 : tie.Need-returns-2
 returns-2 c =
     let t = c .before .before in
@@ -148,12 +145,5 @@ returns-3 c = let t = c .before in everything (known (t .before .before .before)
 pub inside-spec : {M : Type 1} → statement M
 inside-spec =
     tie.close
-    (tie.spec
-    combined-requires
-    combined-requires-2
-    sub-value
-    candidate-requires
-    returns
-    empty-requires
-    returns-2
+    (tie.spec combined-requires combined-requires-2 sub-value candidate-requires returns (search needs) returns-2
     returns-3)

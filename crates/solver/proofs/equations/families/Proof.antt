@@ -39,9 +39,6 @@ Inv-loop job n m labels₀ runs₀ k₀ labels runs k = (k ≤ m) × ((length la
 abbrev μ-loop : tie.MeasureT-loop
 μ-loop job n m labels₀ runs₀ k₀ labels runs k = m - k
 
-apart-requires : tie.Need-apart-requires Inv-loop μ-loop
-apart-requires c κs = search needs
-
 start-requires : tie.Need-start-requires Inv-loop μ-loop
 start-requires c κs = let s = c .before .before in (n-most (sizes (s .pre)), s .pre .1 .1 .1)
 
@@ -121,9 +118,6 @@ mul-q c = let h : c .before .read .result .right < 256 = right-small (c .before)
 array-copy-out-q : tie.Need-array-copy-out-q Inv-loop μ-loop
 array-copy-out-q c = right-small (c .before)
 
-form-requires : tie.Need-form-requires Inv-loop μ-loop
-form-requires c κs = search needs
-
 leaves-requires : tie.Need-leaves-requires Inv-loop μ-loop
 leaves-requires c κs =
     let a = at (c .before .before .before) in
@@ -139,12 +133,6 @@ module _ (c : tie.After-leaves Inv-loop μ-loop) where
       ap keptBy (sym h) ∙ c .leaves .ensures
       ∙ ap (λ f. kept f (getD (labels row) (e row .left) 0) (getD (labels row) (e row .right) 0) (getD (runs row) (e row .left) empty) (getD (runs row) (e row .right) empty)) (c .before .form .ensures)
 
-enum-told : tie.Need-enum-told Inv-loop μ-loop
-enum-told c = search needs
-
-enum-known-kept : tie.Need-enum-known-kept Inv-loop μ-loop
-enum-known-kept c = search needs
-
 keep-requires : tie.Need-keep-requires Inv-loop μ-loop
 keep-requires c κs =
     let v = c .before .before .before in
@@ -154,12 +142,6 @@ keep-requires c κs =
 
 joined-requires : tie.Need-joined-requires Inv-loop μ-loop
 joined-requires c κs = let v = row (c .before .before .before .before) in let a = at v in (n-most (sizes (s v .pre)), (left-label a, (right-label a, labelled a)))
-
-add-k : tie.Need-add-k Inv-loop μ-loop
-add-k c = omega arith
-
-loop-less : tie.Need-loop-less Inv-loop μ-loop
-loop-less c = omega arith
 
 -- components and runs are what was made of them
 onward : (c : tie.After-read Inv-loop μ-loop) {labels labels′ : List ℕ} {runs runs′ : List Run} → labels ≡ labels′ → runs ≡ runs′ → length labels′ ≡ 256 → length runs′ ≡ 256 →
@@ -195,28 +177,6 @@ returns c =
 pub families-spec : {M : Type 1} → statement M
 families-spec =
     tie.close
-    (tie.spec
-    Inv-loop
-    μ-loop
-    apart-requires
-    start-requires
-    loop-holds
-    read-requires
-    mul-l
-    array-read-l
-    mul-r
-    array-read-r
-    mul-p
-    array-copy-out-p
-    mul-q
-    array-copy-out-q
-    form-requires
-    leaves-requires
-    enum-told
-    enum-known-kept
-    keep-requires
-    joined-requires
-    add-k
-    loop-less
-    loop-again
-    returns)
+    (tie.spec Inv-loop μ-loop (search needs) start-requires loop-holds read-requires mul-l array-read-l mul-r
+    array-read-r mul-p array-copy-out-p mul-q array-copy-out-q (search needs) leaves-requires (search needs)
+    (search needs) keep-requires joined-requires (λ c. omega arith) (λ c. omega arith) loop-again returns)

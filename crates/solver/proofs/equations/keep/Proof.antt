@@ -32,12 +32,6 @@ Inv-loop l r kept n runs labels out₀ i₀ out i = (i ≤ n) × Passed empty (a
 abbrev μ-loop : tie.MeasureT-loop
 μ-loop l r kept n runs labels out₀ i₀ out i = n - i
 
-lower-requires : tie.Need-lower-requires Inv-loop μ-loop
-lower-requires c κs = search needs
-
-cast-i : tie.Need-cast-i Inv-loop μ-loop
-cast-i c = search needs
-
 loop-holds : tie.Need-loop-holds Inv-loop μ-loop
 loop-holds c =
     let s = c .before in
@@ -48,36 +42,12 @@ loop-holds c =
           (before-both (s .args .t1) (s .args .t2) (s .args .l) (s .args .r) (s .args .kept) (s .args .n) l f (c .lower .result) e),
     )
 
-mul-run : tie.Need-mul-run Inv-loop μ-loop
-mul-run c = omega arith
-
-array-copy-out-run : tie.Need-array-copy-out-run Inv-loop μ-loop
-array-copy-out-run c = omega arith
-
-mul-part : tie.Need-mul-part Inv-loop μ-loop
-mul-part c = omega arith
-
-array-read-part : tie.Need-array-read-part Inv-loop μ-loop
-array-read-part c = omega arith
-
 part-requires : tie.Need-part-requires Inv-loop μ-loop
 part-requires c κs =
     let s = c .before .before .before .before in
     let k = s .pre .1 .1 .1 in
     let i = c .before .before .loop .i in
     (k .before i (omega arith), k .after i (omega arith))
-
-mul-out : tie.Need-mul-out Inv-loop μ-loop
-mul-out c = omega arith
-
-array-set-from-out : tie.Need-array-set-from-out Inv-loop μ-loop
-array-set-from-out c = omega arith
-
-add-i : tie.Need-add-i Inv-loop μ-loop
-add-i c = omega arith
-
-loop-less : tie.Need-loop-less Inv-loop μ-loop
-loop-less c = omega arith
 
 loop-again : tie.Need-loop-again Inv-loop μ-loop
 loop-again c =
@@ -91,20 +61,6 @@ returns c = let l = c .before .loop in record { at = λ i h. l .inv .1 .behind .
 pub keep-spec : {M : Type 1} → statement M
 keep-spec =
     tie.close
-    (tie.spec
-    Inv-loop
-    μ-loop
-    lower-requires
-    cast-i
-    loop-holds
-    mul-run
-    array-copy-out-run
-    mul-part
-    array-read-part
-    part-requires
-    mul-out
-    array-set-from-out
-    add-i
-    loop-less
-    loop-again
-    returns)
+    (tie.spec Inv-loop μ-loop (search needs) (search needs) loop-holds (λ c. omega arith) (λ c. omega arith)
+    (λ c. omega arith) (λ c. omega arith) part-requires (λ c. omega arith) (λ c. omega arith) (λ c. omega arith)
+    (λ c. omega arith) loop-again returns)

@@ -31,26 +31,11 @@ module _ (e : Equation) (l r : ℕ) (P Q : Run) where
   unfolding kept
   together t o h = rw (together-told (eqb l r) t) (ap bothSides h)
 
-joins-requires : tie.Need-joins-requires
-joins-requires c κs = search needs
-
-between-requires : tie.Need-between-requires
-between-requires c κs = search needs
-
 returns : tie.Need-returns
 returns c =
     let s = c .before .before .before in
     apart (s .args .e) (s .args .l) (s .args .r) (s .args .p) (s .args .q) (s .pre .0) (s .pre .1 .0) (s .pre .1 .1)
     (sym (c .before .before .joins .ensures) ∙ c .before .if1 .taken) (indicesBy (c .between .result)) (c .between .ensures)
-
-inside-requires : tie.Need-inside-requires
-inside-requires c κs = search needs
-
-enum-told : tie.Need-enum-told
-enum-told c = search needs
-
-enum-known-remains : tie.Need-enum-known-remains
-enum-known-remains c = search needs
 
 -- after the call, which gives x
 module _ (c : tie.After-inside) where
@@ -71,12 +56,5 @@ returns-3 c = inside-is (c .before .before .before) (At (c .before .remains .giv
 pub leaves-spec : {M : Type 1} → statement M
 leaves-spec =
     tie.close
-    (tie.spec
-    joins-requires
-    between-requires
-    returns
-    inside-requires
-    enum-told
-    enum-known-remains
-    returns-2
-    returns-3)
+    (tie.spec (search needs) (λ c κs. search needs) returns (λ c κs. search needs) (search needs) (search needs)
+    returns-2 returns-3)

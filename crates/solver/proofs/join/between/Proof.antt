@@ -58,12 +58,6 @@ module _ {e : Equation} {P Q R : Run} (k : Known e P Q R) (lower : Bool) where
         result : (i : Pair) → i ≡ directed lower record { left = l; right = r } → i ≡ join e P Q (meet (upward P) (carry (e .a) (e .b) (e .c) (upward Q))) lower
         result i d = subst (λ R. i ≡ join e P Q R lower) (k .is) (rw (ne-eqb (R .many) 0 h) (d ∙ rw (p, q, s) refl))
 
-upward-requires : tie.Need-upward-requires
-upward-requires c κs = search needs
-
-upward-requires-2 : tie.Need-upward-requires-2
-upward-requires-2 c κs = search needs
-
 carry-requires : tie.Need-carry-requires
 carry-requires c κs = let s = c .before .before in (subst OneForm (sym (c .upward2 .ensures)) (upward-form (s .pre .1 .1)), s .pre .0)
 
@@ -76,12 +70,6 @@ meet-requires c κs =
       subst OneForm (sym (c .before .before .upward .ensures)) (upward-form (s .pre .1 .0)),
       carried-form (s .args .e) (s .args .q) (c .before .upward2 .result) (c .carry .result) (s .pre .0) (s .pre .1 .1) (c .before .upward2 .ensures) (c .carry .ensures),
     )
-
-empty-requires : tie.Need-empty-requires
-empty-requires c κs = search needs
-
-empty-requires-2 : tie.Need-empty-requires-2
-empty-requires-2 c κs = search needs
 
 -- after the meeting
 module _ (c : tie.After-meet) where
@@ -136,16 +124,5 @@ returns-2 c =
 pub between-spec : {M : Type 1} → statement M
 between-spec =
     tie.close
-    (tie.spec
-    upward-requires
-    upward-requires-2
-    carry-requires
-    meet-requires
-    empty-requires
-    empty-requires-2
-    returns
-    indices-in-requires
-    across-requires
-    indices-in-requires-2
-    directed-requires
-    returns-2)
+    (tie.spec (λ c κs. search needs) (λ c κs. search needs) carry-requires meet-requires (search needs) (search needs)
+    returns indices-in-requires across-requires indices-in-requires-2 directed-requires returns-2)

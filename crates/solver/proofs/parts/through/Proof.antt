@@ -67,9 +67,6 @@ module _ {r s : Run} (k : Known r s) where
 nothing : (r s q : Run) → q ≡ empty → s .many ≡ 0 → q ≡ through r s
 nothing r s q e z = rw (eq-eqb (s .many) 0 z) e
 
-empty-requires : tie.Need-empty-requires
-empty-requires c κs = search needs
-
 returns : tie.Need-returns
 returns c = let s = c .before .before .before in nothing (s .args .r) (s .args .indices) (c .empty .result) (c .empty .ensures) (c .before .if1 .taken)
 
@@ -106,4 +103,4 @@ returns-2 : tie.Need-returns-2
 returns-2 c = result (known (c .before .before .before .before .before .before))
 
 pub through-spec : {M : Type 1} → statement M
-through-spec = tie.close (tie.spec empty-requires returns mul-t4 add-t5 mul-t6 returns-2)
+through-spec = tie.close (tie.spec (search needs) returns mul-t4 add-t5 mul-t6 returns-2)

@@ -58,9 +58,6 @@ module _ (r : Run) (t : Turnable r) (small : r .many < 4294967296) where
       record { first = held (held (r .first) +ℤ held (held (r .step) *ℤ held (toZ w64 (r .many) -ℤ pos 1))); step = held (pos 0 -ℤ held (r .step)); many = r .many } (turned r)
   result = rw (many-is, toZ-ofZ fits-first, toZ-ofZ fits-step, toZ-ofZ fits-m, toZ-ofZ fits-way, toZ-ofZ fits-last, opposite, toZ-ofZ fits-back) refl
 
-cast-t2 : tie.Need-cast-t2
-cast-t2 c = search needs
-
 sub-t3 : tie.Need-sub-t3
 sub-t3 c = let s = c .before in less (s .args .r) (s .pre) (search needs)
 
@@ -77,4 +74,4 @@ returns : tie.Need-returns
 returns c = let s = c .before .before .before .before .before .before .before in result (s .args .r) (s .pre) (search needs)
 
 pub turned-spec : {M : Type 1} → statement M
-turned-spec = tie.close (tie.spec cast-t2 sub-t3 mul-t4 add-t5 sub-t6 returns)
+turned-spec = tie.close (tie.spec (search needs) sub-t3 mul-t4 add-t5 sub-t6 returns)

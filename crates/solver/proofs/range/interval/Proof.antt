@@ -88,9 +88,6 @@ module _ (b : Bounds) (w : Bounded b) where
         step zero e h = absurd (omega (arith, h))
         step (suc n) e h = refl
 
-empty-requires : tie.Need-empty-requires
-empty-requires c κs = search needs
-
 returns : tie.Need-returns
 returns c = let s = c .before .before .before .before in none (s .args .b) (s .pre) (c .empty .result) (c .empty .ensures) (c .before .if1 .taken)
 
@@ -112,4 +109,4 @@ returns-3 : tie.Need-returns-3
 returns-3 c = let s = c .before .before .before .before .before .before .before in one (s .args .b) (s .pre) (c .before .before .before .before .if1 .left) (c .before .if2 .left)
 
 pub interval-spec : {M : Type 1} → statement M
-interval-spec = tie.close (tie.spec empty-requires returns sub-t3 add-t4 cast-t5 returns-2 returns-3)
+interval-spec = tie.close (tie.spec (search needs) returns sub-t3 add-t4 cast-t5 returns-2 returns-3)

@@ -33,15 +33,6 @@ abbrev μ-loop : tie.MeasureT-loop
 loop-holds : tie.Need-loop-holds Inv-loop μ-loop
 loop-holds c = (omega arith, unfilled empty (begins (c .args .t1)) _ (search needs))
 
-mul-b : tie.Need-mul-b Inv-loop μ-loop
-mul-b c = omega arith
-
-array-copy-out-b : tie.Need-array-copy-out-b Inv-loop μ-loop
-array-copy-out-b c = omega arith
-
-full-requires : tie.Need-full-requires Inv-loop μ-loop
-full-requires c κs = search needs
-
 interval-requires : tie.Need-interval-requires Inv-loop μ-loop
 interval-requires c κs = let s = c .before .before .before .before in s .pre .1 .at (c .before .before .before .loop .i) (omega arith)
 
@@ -50,18 +41,6 @@ meet-requires c κs =
     let s = c .before .before .before .before .before in
     let b = s .pre .1 .at (c .before .before .before .before .loop .i) (omega arith) in
     (subst OneForm (sym (c .before .full .ensures)) full-form, subst OneForm (sym (c .interval .ensures)) (interval-form _ _ (b .low) (b .high)))
-
-mul-runs : tie.Need-mul-runs Inv-loop μ-loop
-mul-runs c = omega arith
-
-array-set-from-runs : tie.Need-array-set-from-runs Inv-loop μ-loop
-array-set-from-runs c = omega arith
-
-add-i : tie.Need-add-i Inv-loop μ-loop
-add-i c = omega arith
-
-loop-less : tie.Need-loop-less Inv-loop μ-loop
-loop-less c = omega arith
 
 loop-again : tie.Need-loop-again Inv-loop μ-loop
 loop-again c =
@@ -78,18 +57,5 @@ returns c = let l = c .before .loop in record { at = λ i h. l .inv .1 .done i (
 pub start-spec : {M : Type 1} → statement M
 start-spec =
     tie.close
-    (tie.spec
-    Inv-loop
-    μ-loop
-    loop-holds
-    mul-b
-    array-copy-out-b
-    full-requires
-    interval-requires
-    meet-requires
-    mul-runs
-    array-set-from-runs
-    add-i
-    loop-less
-    loop-again
-    returns)
+    (tie.spec Inv-loop μ-loop loop-holds (λ c. omega arith) (λ c. omega arith) (search needs) interval-requires
+    meet-requires (λ c. omega arith) (λ c. omega arith) (λ c. omega arith) (λ c. omega arith) loop-again returns)

@@ -50,12 +50,6 @@ mul-weights c = let l = c .before .before .before .before .loop in let h : l .i 
 array-set-from-weights : tie.Need-array-set-from-weights Inv-loop μ-loop
 array-set-from-weights c = let l = c .before .before .before .before .loop in let h : l .i < 256 = omega arith in h
 
-add-i : tie.Need-add-i Inv-loop μ-loop
-add-i c = omega arith
-
-loop-less : tie.Need-loop-less Inv-loop μ-loop
-loop-less c = omega arith
-
 loop-again : tie.Need-loop-again Inv-loop μ-loop
 loop-again c =
     let l = c .before .before .before .before .loop in
@@ -75,16 +69,5 @@ returns c = let l = c .before .loop in (record { at = λ i h. l .inv .1 .0 .done
 pub read-spec : {M : Type 1} → statement M
 read-spec =
     tie.close
-    (tie.spec
-    Inv-loop
-    μ-loop
-    loop-holds
-    read-requires
-    mul-bounds
-    array-set-from-bounds
-    mul-weights
-    array-set-from-weights
-    add-i
-    loop-less
-    loop-again
-    returns)
+    (tie.spec Inv-loop μ-loop loop-holds read-requires mul-bounds array-set-from-bounds mul-weights
+    array-set-from-weights (λ c. omega arith) (λ c. omega arith) loop-again returns)

@@ -158,9 +158,6 @@ add-lowest c =
     let s = k .before .before .before .before .before .before in
     lowest-asked (s .args .self) (s .args .to) (s .pre) (k .remainder .result) (k .remainder .ensures)
 
-empty-requires : tie.Need-empty-requires
-empty-requires c κs = search needs
-
 returns : tie.Need-returns
 returns c =
     let k = c .before .before .before .before .before .before in
@@ -210,14 +207,5 @@ returns-2 c =
 pub clip-spec : {M : Type 1} → statement M
 clip-spec =
     tie.close
-    (tie.spec
-    sub-remainder
-    remainder-requires
-    add-lowest
-    empty-requires
-    returns
-    sub-quotient
-    quotient-requires
-    cast-progression
-    progression-requires
-    returns-2)
+    (tie.spec sub-remainder remainder-requires add-lowest (search needs) returns sub-quotient quotient-requires
+    cast-progression progression-requires returns-2)

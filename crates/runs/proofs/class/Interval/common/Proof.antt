@@ -15,12 +15,6 @@ use Rattle.runs.proofs.class.Interval.common.Tie as tie
 end : (f : ℤ → ℤ → ℤ) (x y r : ℤ) → SFits w64 x → SFits w64 y → SFits w64 r → r ≡ f (held x) (held y) → held r ≡ f x y
 end f x y r x-fits y-fits r-fits e = toZ-ofZ r-fits ∙ e ∙ ap₂ f (toZ-ofZ x-fits) (toZ-ofZ y-fits)
 
-greater-requires : tie.Need-greater-requires
-greater-requires c κs = search needs
-
-smaller-requires : tie.Need-smaller-requires
-smaller-requires c κs = search needs
-
 returns : tie.Need-returns
 returns c =
     let g = c .before .before .before in
@@ -32,4 +26,4 @@ returns c =
     (end smaller (s .self .high) (s .other .high) (c .smaller .result) record { sfits = one .1 .0 .1 } record { sfits = other .1 .0 .1 } record { sfits = c .smaller .ok } (c .smaller .ensures))
 
 pub common-spec : {M : Type 1} → statement M
-common-spec = tie.close (tie.spec greater-requires smaller-requires returns)
+common-spec = tie.close (tie.spec (search needs) (search needs) returns)

@@ -200,11 +200,5 @@ returns c =
 pub class-by-spec : {M : Type 1} → statement M
 class-by-spec =
     tie.close
-    (tie.spec
-    quotient-requires
-    remainder-requires
-    quotient-requires-2
-    remainder-requires-2
-    mul-remainder
-    remainder-requires-3
-    returns)
+    (tie.spec quotient-requires remainder-requires quotient-requires-2 remainder-requires-2 mul-remainder
+    remainder-requires-3 returns)

@@ -67,9 +67,6 @@ module _ (c : lts.After-remainder claims reads.Pre reads.Post) where
   none : ltZ (pos 0) (held r) ≡ false → rest ≤ℤ pos 0
   none t = lin (r ∷ rest ∷ []) (rest-is & t) (search (signed, fits-r) depth 20) (omega arith)
 
-of-requires : tie.Need-of-requires
-of-requires c κs = search needs
-
 remainder-requires : tie.Need-remainder-requires
 remainder-requires c κs = asked (limits-v (c .before .before))
 
@@ -84,9 +81,6 @@ returns c =
     let o = c .before .before .before .before in
     nothing (factor o) (o .before .before .before .pre .above) (v o) (some (c .before) (c .if1 .taken))
 
-returns-2 : tie.Need-returns-2
-returns-2 c = search needs
-
 pub solve-spec : {M : Type 1} → statement M
 solve-spec =
-    tie.close (tie.spec of-requires remainder-requires class-by-requires returns returns-2)
+    tie.close (tie.spec (λ c κs. search needs) remainder-requires class-by-requires returns (λ c. search needs))

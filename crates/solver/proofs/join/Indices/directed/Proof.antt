@@ -25,15 +25,6 @@ module _ (lower : Bool) (i : Pair) (x : Run) (f : SFits w64 (x .step)) (e : x �
   stays : ltZ (held (x .step)) (pos 0) ≡ false → i ≡ directed lower i
   stays t = rw (test-is t) refl
 
-leading-requires : tie.Need-leading-requires
-leading-requires c κs = search needs
-
-turned-requires : tie.Need-turned-requires
-turned-requires c κs = search needs
-
-turned-requires-2 : tie.Need-turned-requires-2
-turned-requires-2 c κs = search needs
-
 returns : tie.Need-returns
 returns c =
     let t = c .before .before .before in
@@ -50,4 +41,4 @@ returns-2 c =
     stays (s .args .leads) (indicesBy (s .args .self)) (l .leading .result) record { sfits = t .struct-told .given .1 .0 .1 } (l .leading .ensures) (c .if1 .left)
 
 pub directed-spec : {M : Type 1} → statement M
-directed-spec = tie.close (tie.spec leading-requires turned-requires turned-requires-2 returns returns-2)
+directed-spec = tie.close (tie.spec (search needs) (search needs) (search needs) returns returns-2)
