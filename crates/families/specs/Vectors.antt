@@ -22,8 +22,8 @@ use Rattle.jobs.specs.Component.{leads, componentCount}
 use Rattle.jobs.specs.Faults.{Answer, accepted, checked}
 use Rattle.jobs.specs.Verdict.{Verdict, planned, noFit, refused}
 use Rattle.jobs.specs.Demands.{baseOn, stepOn, groupOn, fitsOn}
-use Rattle.jobs.specs.JobBytes.{plus, minus, header, count, plain, equationBytes, total, difference}
-use Rattle.jobs.specs.Vectors.{Vector, fitted, vectors}
+use Rattle.jobs.specs.JobBytes.{plus, minus, header, count, equationBytes}
+use Rattle.jobs.specs.Vectors.{Vector, emptySheet, falling, fallingSheet, ring, ringSheet, twice, twiceSheet, uneven, noMultiple, fitted, vectors}
 use Rattle.families.specs.Family.{choice}
 use Rattle.families.specs.Model.{State, labelAt, runAt, interval, through, candidate, cycle, Indices, commonNumbers, directed, kept, stateAfterAll}
 
@@ -47,13 +47,6 @@ pub record Worked : Type 0 where
 abbrev pub after : Worked → List ℕ → List ℕ
 after v area = v .sheet ++ drop (length (v .sheet)) area
 
--- two counts with one equation, and with two
-abbrev once : List ℕ → List ℕ → List ℕ → List ℕ
-once count0 count1 tie = header 2 1 48 68 ++ count0 ++ count1 ++ tie
-
-abbrev twice : List ℕ → List ℕ → List ℕ → List ℕ → List ℕ
-twice count0 count1 tie tie′ = header 2 2 48 88 ++ count0 ++ count1 ++ tie ++ tie′
-
 abbrev jobM : List ℕ
 jobM =
     header 4 2 72 112 ++
@@ -70,7 +63,7 @@ jobM =
 abbrev widest : List ℕ
 widest = header 1 0 36 36 ++ count (0 ∷ 54 ∷ 101 ∷ 196 ∷ []) (0 ∷ 202 ∷ 154 ∷ 59 ∷ []) (64 ∷ 66 ∷ 15 ∷ 0 ∷ [])
 
--- ---- their sheets: a row stands on a line, under its fields
+-- ---- their sheets, beside those of crate jobs: a row stands on a line, under its fields
 abbrev sheetM : List ℕ
 sheetM =
     -- 4 counts, 2 groups, their rows at 88, worth 314
@@ -87,48 +80,6 @@ sheetM =
     4 ∷ 0 ∷ 0 ∷ 0 ∷ 3 ∷ 0 ∷ 0 ∷ 0 ∷ 82 ∷ 0 ∷ 0 ∷ 0 ∷ 0 ∷ 0 ∷ 0 ∷ 0 ∷ [] ++
     -- group 1: fits 4, k 0, gain 0
     4 ∷ 0 ∷ 0 ∷ 0 ∷ 0 ∷ 0 ∷ 0 ∷ 0 ∷ 0 ∷ 0 ∷ 0 ∷ 0 ∷ 0 ∷ 0 ∷ 0 ∷ 0 ∷ []
-
--- of no counts
-abbrev emptySheet : List ℕ
-emptySheet =
-    -- no counts, no groups, their rows at 24, worth 0
-    65 ∷ 78 ∷ 83 ∷ 49 ∷ 0 ∷ 0 ∷ 0 ∷ 0 ∷ 24 ∷ 0 ∷ 0 ∷ 0 ∷ 24 ∷ 0 ∷ 0 ∷ 0 ∷ 0 ∷ 0 ∷ 0 ∷ 0 ∷ 0 ∷ 0 ∷ 0 ∷ 0 ∷ []
-
--- of c0 + c1 = 5 and c0 − c1 = 1
-abbrev singleSheet : List ℕ
-singleSheet =
-    -- 2 counts, 1 group, its row at 56, worth 0
-    65 ∷ 78 ∷ 83 ∷ 49 ∷ 2 ∷ 0 ∷ 1 ∷ 0 ∷ 24 ∷ 0 ∷ 0 ∷ 0 ∷ 56 ∷ 0 ∷ 0 ∷ 0 ∷ 0 ∷ 0 ∷ 0 ∷ 0 ∷ 0 ∷ 0 ∷ 0 ∷ 0 ∷ [] ++
-    -- count 0: number 3, base 3, step 0, group 0
-    3 ∷ 0 ∷ 0 ∷ 0 ∷ 3 ∷ 0 ∷ 0 ∷ 0 ∷ 0 ∷ 0 ∷ 0 ∷ 0 ∷ 0 ∷ 0 ∷ 0 ∷ 0 ∷ [] ++
-    -- count 1: number 2, base 2, step 0, group 0
-    2 ∷ 0 ∷ 0 ∷ 0 ∷ 2 ∷ 0 ∷ 0 ∷ 0 ∷ 0 ∷ 0 ∷ 0 ∷ 0 ∷ 0 ∷ 0 ∷ 0 ∷ 0 ∷ [] ++
-    -- group 0: fits 1, k 0, gain 0
-    1 ∷ 0 ∷ 0 ∷ 0 ∷ 0 ∷ 0 ∷ 0 ∷ 0 ∷ 0 ∷ 0 ∷ 0 ∷ 0 ∷ 0 ∷ 0 ∷ 0 ∷ 0 ∷ []
-
--- of c0 − c1 = 0 twice: all are worth the same, and the lowest c0 comes first
-abbrev redundantSheet : List ℕ
-redundantSheet =
-    -- 2 counts, 1 group, its row at 56, worth 0
-    65 ∷ 78 ∷ 83 ∷ 49 ∷ 2 ∷ 0 ∷ 1 ∷ 0 ∷ 24 ∷ 0 ∷ 0 ∷ 0 ∷ 56 ∷ 0 ∷ 0 ∷ 0 ∷ 0 ∷ 0 ∷ 0 ∷ 0 ∷ 0 ∷ 0 ∷ 0 ∷ 0 ∷ [] ++
-    -- count 0: number 0, base 0, step 1, group 0
-    0 ∷ 0 ∷ 0 ∷ 0 ∷ 0 ∷ 0 ∷ 0 ∷ 0 ∷ 1 ∷ 0 ∷ 0 ∷ 0 ∷ 0 ∷ 0 ∷ 0 ∷ 0 ∷ [] ++
-    -- count 1: number 0, base 0, step 1, group 0
-    0 ∷ 0 ∷ 0 ∷ 0 ∷ 0 ∷ 0 ∷ 0 ∷ 0 ∷ 1 ∷ 0 ∷ 0 ∷ 0 ∷ 0 ∷ 0 ∷ 0 ∷ 0 ∷ [] ++
-    -- group 0: fits 4, k 0, gain 0
-    4 ∷ 0 ∷ 0 ∷ 0 ∷ 0 ∷ 0 ∷ 0 ∷ 0 ∷ 0 ∷ 0 ∷ 0 ∷ 0 ∷ 0 ∷ 0 ∷ 0 ∷ 0 ∷ []
-
--- of c0 + 2·c1 = 0
-abbrev slantedSheet : List ℕ
-slantedSheet =
-    -- 2 counts, 1 group, its row at 56, worth 2
-    65 ∷ 78 ∷ 83 ∷ 49 ∷ 2 ∷ 0 ∷ 1 ∷ 0 ∷ 24 ∷ 0 ∷ 0 ∷ 0 ∷ 56 ∷ 0 ∷ 0 ∷ 0 ∷ 2 ∷ 0 ∷ 0 ∷ 0 ∷ 0 ∷ 0 ∷ 0 ∷ 0 ∷ [] ++
-    -- count 0: number −4, base −4, step 2, group 0
-    252 ∷ 255 ∷ 255 ∷ 255 ∷ 252 ∷ 255 ∷ 255 ∷ 255 ∷ 2 ∷ 0 ∷ 0 ∷ 0 ∷ 0 ∷ 0 ∷ 0 ∷ 0 ∷ [] ++
-    -- count 1: number 2, base 2, step −1, group 0
-    2 ∷ 0 ∷ 0 ∷ 0 ∷ 2 ∷ 0 ∷ 0 ∷ 0 ∷ 255 ∷ 255 ∷ 255 ∷ 255 ∷ 0 ∷ 0 ∷ 0 ∷ 0 ∷ [] ++
-    -- group 0: fits 5, k 0, gain −1
-    5 ∷ 0 ∷ 0 ∷ 0 ∷ 0 ∷ 0 ∷ 0 ∷ 0 ∷ 255 ∷ 255 ∷ 255 ∷ 255 ∷ 255 ∷ 255 ∷ 255 ∷ 255 ∷ []
 
 abbrev widestSheet : List ℕ
 widestSheet =
@@ -170,18 +121,17 @@ markedJobs =
     -- no counts
     record { job = header 0 0 24 24; labels = []; g = 0; runs = []; room = 24; verdict = planned (pos 0); sheet = emptySheet } ∷
     -- 2·c0 + 4·c1 = 7
-    without (once (plain 9) (plain 9) (equationBytes 0 1 (plus 2) (plus 4) 7)) ∷
+    without uneven ∷
     -- 3·c0 − 5·c1 = 0: of 1..4 none is a multiple of 5
-    without (once (count (plus 1) (plus 4) (plus 0)) (plain 9) (equationBytes 0 1 (plus 3) (minus 5) 0)) ∷
-    -- a ring whose single candidate is 3½ and 1½, and one where it is 3 and 2
-    without (twice (plain 9) (plain 9) (total 0 1 5) (difference 0 1 2)) ∷
-    tied (twice (plain 9) (plain 9) (total 0 1 5) (difference 0 1 1)) (run (pos 3) (pos 0) 1) (run (pos 2) (pos 0) 1) (planned (pos 0)) singleSheet ∷
-    -- a ring that is redundant, and one that leaves none
-    tied (twice (plain 3) (plain 3) (difference 0 1 0) (difference 0 1 0)) (run (pos 0) (pos 1) 4) (run (pos 0) (pos 1) 4) (planned (pos 0)) redundantSheet ∷
-    without (twice (plain 3) (plain 3) (difference 0 1 0) (difference 0 1 1)) ∷
+    without noMultiple ∷
+    -- c0 + c1 = 5 and c0 − c1 = c, a ring: its single candidate is 3½ and 1½ for c = 2, and 3 and 2 for c = 1
+    without (ring 2) ∷
+    tied (ring 1) (run (pos 3) (pos 0) 1) (run (pos 2) (pos 0) 1) (planned (pos 0)) ringSheet ∷
+    -- c0 − c1 = 0 and c0 − c1 = c, a ring that is redundant for c = 0, and leaves none for c = 1
+    tied (twice 0) (run (pos 0) (pos 1) 4) (run (pos 0) (pos 1) 4) (planned (pos 0)) twiceSheet ∷
+    without (twice 1) ∷
     -- c0 + 2·c1 = 0
-    tied (once (count (minus 5) (plus 5) (plus 0)) (count (minus 3) (plus 3) (plus 1)) (equationBytes 0 1 (plus 1) (plus 2) 0))
-    (run (negℤ (pos 4)) (pos 2) 5) (run (pos 2) (negℤ (pos 1)) 5) (planned (pos 2)) slantedSheet ∷
+    tied falling (run (negℤ (pos 4)) (pos 2) 5) (run (pos 2) (negℤ (pos 1)) 5) (planned (pos 2)) fallingSheet ∷
     -- the full range
     record {
       job = widest;
@@ -335,21 +285,21 @@ directions = (refl, refl)
 abbrev slanted : Form
 slanted = by (pos 1) (pos 2) (pos 0)
 
-abbrev rising : ℕ → Run
-rising k = run (negℤ (pos k)) (pos 1) (2 * k + 1)
+abbrev ascending : ℕ → Run
+ascending k = run (negℤ (pos k)) (pos 1) (2 * k + 1)
 
-abbrev falling : ℕ → Run
-falling k = run (pos k) (negℤ (pos 1)) (2 * k + 1)
+abbrev descending : ℕ → Run
+descending k = run (pos k) (negℤ (pos 1)) (2 * k + 1)
 
-joins : (kept slanted 0 1 (rising 5) (rising 3) ≡ some (beside (run (pos 1) (pos 2) 5) (run (pos 5) (negℤ (pos 1)) 5))) ×
-    (kept slanted 1 0 (rising 5) (rising 3) ≡ some (beside (run (pos 9) (negℤ (pos 2)) 5) (run (pos 1) (pos 1) 5))) ×
-    (kept slanted 0 1 (falling 5) (rising 3) ≡ some (beside (run (pos 1) (pos 2) 5) (run (pos 1) (pos 1) 5))) ×
-    (kept slanted 1 0 (rising 5) (falling 3) ≡ some (beside (run (pos 1) (pos 2) 5) (run (pos 1) (pos 1) 5)))
+joins : (kept slanted 0 1 (ascending 5) (ascending 3) ≡ some (beside (run (pos 1) (pos 2) 5) (run (pos 5) (negℤ (pos 1)) 5))) ×
+    (kept slanted 1 0 (ascending 5) (ascending 3) ≡ some (beside (run (pos 9) (negℤ (pos 2)) 5) (run (pos 1) (pos 1) 5))) ×
+    (kept slanted 0 1 (descending 5) (ascending 3) ≡ some (beside (run (pos 1) (pos 2) 5) (run (pos 1) (pos 1) 5))) ×
+    (kept slanted 1 0 (ascending 5) (descending 3) ≡ some (beside (run (pos 1) (pos 2) 5) (run (pos 1) (pos 1) 5)))
 unfolding kept
 joins = (refl, refl, refl, refl)
 
 -- 2·p + 4·q = 7 has none
-joins-none : kept (by (pos 2) (pos 4) (pos 7)) 0 1 (rising 5) (rising 3) ≡ some (beside empty empty)
+joins-none : kept (by (pos 2) (pos 4) (pos 7)) 0 1 (ascending 5) (ascending 3) ≡ some (beside empty empty)
 unfolding kept
 joins-none = refl
 

@@ -70,7 +70,7 @@ narrowMSheet =
     2 ∷ 0 ∷ 0 ∷ 0 ∷ 0 ∷ 0 ∷ 0 ∷ 0 ∷ 0 ∷ 0 ∷ 0 ∷ 0 ∷ 0 ∷ 0 ∷ 0 ∷ 0 ∷ []
 
 -- no counts, no groups, their rows at 24, worth 0
-abbrev emptySheet : List ℕ
+abbrev pub emptySheet : List ℕ
 emptySheet = 65 ∷ 78 ∷ 83 ∷ 49 ∷ 0 ∷ 0 ∷ 0 ∷ 0 ∷ 24 ∷ 0 ∷ 0 ∷ 0 ∷ 24 ∷ 0 ∷ 0 ∷ 0 ∷ 0 ∷ 0 ∷ 0 ∷ 0 ∷ 0 ∷ 0 ∷ 0 ∷ 0 ∷ []
 
 -- two untied counts, with weights of either sign
@@ -94,14 +94,14 @@ untiedSheet =
     4 ∷ 0 ∷ 0 ∷ 0 ∷ 0 ∷ 0 ∷ 0 ∷ 0 ∷ 254 ∷ 255 ∷ 255 ∷ 255 ∷ 255 ∷ 255 ∷ 255 ∷ 255 ∷ []
 
 -- c0 + 2·c1 = 0
-abbrev falling : List ℕ
+abbrev pub falling : List ℕ
 falling =
     header 2 1 48 68 ++
     count (minus 5) (plus 5) (plus 0) ++
     count (minus 3) (plus 3) (plus 1) ++
     equationBytes 0 1 (plus 1) (plus 2) 0
 
-abbrev fallingSheet : List ℕ
+abbrev pub fallingSheet : List ℕ
 fallingSheet =
     -- 2 counts, 1 group, its row at 56, worth 2
     65 ∷ 78 ∷ 83 ∷ 49 ∷ 2 ∷ 0 ∷ 1 ∷ 0 ∷ 24 ∷ 0 ∷ 0 ∷ 0 ∷ 56 ∷ 0 ∷ 0 ∷ 0 ∷ 2 ∷ 0 ∷ 0 ∷ 0 ∷ 0 ∷ 0 ∷ 0 ∷ 0 ∷ [] ++
@@ -113,7 +113,7 @@ fallingSheet =
     5 ∷ 0 ∷ 0 ∷ 0 ∷ 0 ∷ 0 ∷ 0 ∷ 0 ∷ 255 ∷ 255 ∷ 255 ∷ 255 ∷ 255 ∷ 255 ∷ 255 ∷ 255 ∷ []
 
 -- a ring: c0 + c1 = 5 and c0 − c1 = c
-abbrev ring : ℕ → List ℕ
+abbrev pub ring : ℕ → List ℕ
 ring c = header 2 2 48 88 ++ plain 9 ++ plain 9 ++ total 0 1 5 ++ difference 0 1 c
 
 -- 2 counts, 1 group, its row at 56, worth 0
@@ -121,7 +121,7 @@ abbrev worthNothing : List ℕ
 worthNothing = 65 ∷ 78 ∷ 83 ∷ 49 ∷ 2 ∷ 0 ∷ 1 ∷ 0 ∷ 24 ∷ 0 ∷ 0 ∷ 0 ∷ 56 ∷ 0 ∷ 0 ∷ 0 ∷ 0 ∷ 0 ∷ 0 ∷ 0 ∷ 0 ∷ 0 ∷ 0 ∷ 0 ∷ []
 
 -- for c = 1
-abbrev ringSheet : List ℕ
+abbrev pub ringSheet : List ℕ
 ringSheet =
     worthNothing ++
     -- count 0: number 3, base 3, step 0, group 0
@@ -132,11 +132,11 @@ ringSheet =
     1 ∷ 0 ∷ 0 ∷ 0 ∷ 0 ∷ 0 ∷ 0 ∷ 0 ∷ 0 ∷ 0 ∷ 0 ∷ 0 ∷ 0 ∷ 0 ∷ 0 ∷ 0 ∷ []
 
 -- c0 − c1 = 0 and c0 − c1 = c
-abbrev twice : ℕ → List ℕ
+abbrev pub twice : ℕ → List ℕ
 twice c = header 2 2 48 88 ++ plain 3 ++ plain 3 ++ difference 0 1 0 ++ difference 0 1 c
 
--- for c = 0
-abbrev twiceSheet : List ℕ
+-- for c = 0: all are worth the same, and the lowest c0 comes first
+abbrev pub twiceSheet : List ℕ
 twiceSheet =
     worthNothing ++
     -- count 0: number 0, base 0, step 1, group 0
@@ -170,11 +170,11 @@ groupsSheet =
 
 -- ---- jobs without one
 -- 2·c0 + 4·c1 = 7
-abbrev uneven : List ℕ
+abbrev pub uneven : List ℕ
 uneven = header 2 1 48 68 ++ plain 9 ++ plain 9 ++ equationBytes 0 1 (plus 2) (plus 4) 7
 
 -- 3·c0 − 5·c1 = 0
-abbrev noMultiple : List ℕ
+abbrev pub noMultiple : List ℕ
 noMultiple = header 2 1 48 68 ++ count (plus 1) (plus 4) (plus 0) ++ plain 9 ++ equationBytes 0 1 (plus 3) (minus 5) 0
 
 -- ---- faulty jobs
