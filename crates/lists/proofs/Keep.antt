@@ -2,7 +2,7 @@
 -- kept; what the tests of all members and of any say, and the place of the first that passes.
 use mathlib.Core.Path.{_≡_, refl, sym, _∙_, ap, ap₂}
 use mathlib.Core.Logic.{_↔_, _⊎_, inl, inr, ⊎-elim}
-use mathlib.Core.Bool.{Bool, true, false, cond, _||_, false≢true, and-eq-true-iff}
+use mathlib.Core.Bool.{Bool, true, false, cond, _&&_, _||_, false≢true, and-eq-true-iff, and-assoc}
 use mathlib.Core.List.{List, [], _∷_, _++_}
 use Prim.Native.Nat.{ℕ, zero, suc, _≤_, _<_}
 use native.Mathlib.Omega.{arith}
@@ -92,6 +92,11 @@ module _ {A : Type 0} (p : A → Bool) where
 
   pub every-iff : (xs : List A) → (every p xs ≡ true) ↔ ((z : A) → z ∈ xs → p z ≡ true)
   every-iff xs = (λ t z h. every-out t h, every-into xs)
+
+  pub every-append : (xs ys : List A) → every p (xs ++ ys) ≡ every p xs && every p ys
+  unfolding every
+  every-append [] ys = refl
+  every-append (x ∷ xs) ys = ap (λ t. p x && t) (every-append xs ys) ∙ sym (and-assoc (p x) (every p xs) (every p ys))
 
   -- the same by places
   pub every-at : (xs : List A) (d : A) → (every p xs ≡ true) ↔ ((k : ℕ) → k < length xs → p (getD xs k d) ≡ true)

@@ -8,6 +8,8 @@ pub mod Places
 pub mod Rising
 -- a list kept by a test has just the members that pass, and rises if the list does: `in-keep`, `rising-keep`
 pub mod Keep
+-- a test put to every member says the same in any order of the list (`every-permuted`)
+pub mod Permutation
 -- the list of f 0, f 1, ..: `in-table`, `table-at`, and two that agree (`same-table`)
 pub mod Table
 -- how many numbers below n pass a test, counted one by one

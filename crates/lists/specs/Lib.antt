@@ -4,6 +4,7 @@
 pub mod Members
 pub mod Rising
 pub mod Keep
+pub mod Permutation
 pub mod Table
 pub mod Range
 pub mod Lexicographic
