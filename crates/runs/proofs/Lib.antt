@@ -22,6 +22,8 @@ pub mod SolutionPeriod
 pub mod CarryWidths
 -- meeting by the method is the definition: by members (`is-meet`), and by a congruence (`met`)
 pub mod MeetMethod
+-- the numbers of the range that pass a test, by members (`is-passing`)
+pub mod Passing
 -- what a run is carried to, by its members (`is-carry`)
 pub mod CarryMembers
 -- the p with a partner in a residue class

@@ -37,7 +37,11 @@ pub record Partner (a b c : ℤ) (r : Run) (p : ℤ) : Type 0 where
   pub member : InRun r q
   pub holds : a *ℤ p +ℤ b *ℤ q ≡ c
 
--- "the run of all p within ±1,000,000,000 that have a partner q in the run"; there is no `unfolding` line, so that who
--- opens this definition does not open the two thousand million numbers too
+-- the run of all numbers within ±1,000,000,000 that pass a test; there is no `unfolding` line, so that who opens this definition
+-- does not open the two thousand million numbers too
+unfoldable pub passing : (ℤ → Bool) → Run
+passing test = runOf (keep test (range (negℤ (pos bound)) (pos bound)))
+
+-- "the run of all p within ±1,000,000,000 that have a partner q in the run"
 unfoldable pub carry : ℤ → ℤ → ℤ → Run → Run
-carry a b c q = runOf (keep (hasPartner a b c q) (range (negℤ (pos bound)) (pos bound)))
+carry a b c q = passing (hasPartner a b c q)

@@ -42,10 +42,14 @@ isCoefficient x = isWithin 1000000 x && not (isEqual x (pos 0))
 abbrev pub carryLimits : Equation → Bool
 carryLimits e = isCoefficient (e .a) && (isCoefficient (e .b) && isWithin 2000000000000000 (e .c))
 
--- two runs in their one form meet; otherwise reason 9
-abbrev pub meeting : Run → Run → WorkingAnswer
-meeting a b = cond (isOneForm a && isOneForm b) (run (meet a b)) (refused 9 0)
+-- a run where a test passes; otherwise reason 9, row 0
+abbrev pub answerIf : Bool → Run → WorkingAnswer
+answerIf test r = cond test (run r) (refused 9 0)
 
--- a run of q in its one form is carried by an equation within its limits; otherwise reason 9
+-- two runs in their one form meet
+abbrev pub meeting : Run → Run → WorkingAnswer
+meeting a b = answerIf (isOneForm a && isOneForm b) (meet a b)
+
+-- a run of q in its one form is carried by an equation within its limits
 abbrev pub carrying : Equation → Run → WorkingAnswer
-carrying e q = cond (carryLimits e && isOneForm q) (run (carry (e .a) (e .b) (e .c) q)) (refused 9 0)
+carrying e q = answerIf (carryLimits e && isOneForm q) (carry (e .a) (e .b) (e .c) q)
