@@ -2,17 +2,20 @@
 -- range; the model works it out.
 use mathlib.Core.Path.{_≡_, refl, sym, _∙_, ap}
 use mathlib.Core.Bool.{true}
+use mathlib.Core.List.{List, [], _∷_, Perm·refl}
 use Prim.Native.Nat.{ℕ}
 use Rattle.ints.proofs.{ℤ, pos, negsuc}
 use Rattle.lists.specs.Keep.{every}
 use Rattle.runs.specs.Run.{Run, OneForm, numbers, isOneForm, empty, full}
-use Rattle.runs.specs.Search.{meet, carry}
+use Rattle.runs.specs.Search.{meet, carry, meetAll}
+use Rattle.runs.specs.Groupings.{alone, pair, leaves, met}
 use Rattle.runs.specs.Workings.{Equation, carryLimits}
 use Rattle.runs.proofs.ClassInInterval.{full-form}
 use Rattle.runs.specs.Model.{meetModel, carryModel}
 use Rattle.runs.proofs.Model.{meet-model, carry-model}
 use Rattle.runs.proofs.MeetAndCarry.{carry-form}
 use Rattle.runs.proofs.Refusals.{one-form-iff, in-limits-iff}
+use Rattle.runs.proofs.MeetLaws.{meet-laws, all-formed-iff}
 
 abbrev tie : ℤ → ℤ → ℤ → Equation
 tie a b c = record { a = a; b = b; c = c }
@@ -47,3 +50,12 @@ small-jobs = (
 pub full-job : meet full (carry (pos 1000000) (negsuc 999998) (pos 1) full) ≡ record { first = negsuc 999998998; step = pos 999999; many = 2000 }
 unfolding meetModel carryModel
 full-job = by-model (pos 1000000) (negsuc 999998) (pos 1) full full (record { first = negsuc 999998998; step = pos 999999; many = 2000 }) refl full-form full-form refl
+
+-- ---- three sheets of limits: 0, 3, .., 30; 4, 6, .., 40; and 10 to 25
+abbrev sheets : List Run
+sheets = record { first = pos 0; step = pos 3; many = 11 } ∷ record { first = pos 4; step = pos 2; many = 19 } ∷ bounds (pos 10) 16 ∷ []
+
+-- 12, 18 and 24 are in all of them
+pub three-sheets : meetAll sheets ≡ record { first = pos 12; step = pos 6; many = 3 }
+unfolding every numbers leaves met meet
+three-sheets = sym (meet-laws .any-way (pair (pair (alone _) (alone _)) (alone _)) sheets (Perm·refl sheets) (all-formed-iff sheets .0 refl))

@@ -40,5 +40,11 @@ pub mod MeetAndCarry
 -- the tests on which a working refuses say what the sentences say (`one-form-iff`, `in-limits-iff`), and it refuses just there
 -- (`meeting-unless`, `carrying-unless`)
 pub mod Refusals
+-- the laws of meeting: of two and three runs, of the full range and of empty, of a list in any order and grouping (`meet-laws`)
+pub mod MeetLaws
+-- the same of the working, on any arguments (`meeting-laws`)
+pub mod MeetingLaws
+-- statements that are nearly laws, and where they fail
+pub mod AlmostLaws
 -- document 01's jobs with one equation, through the definitions: `small-jobs`, `full-job`
 pub mod Examples

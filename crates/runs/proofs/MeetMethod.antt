@@ -24,7 +24,7 @@ use Rattle.runs.proofs.ClassInInterval.{IsClip, is-clip}
 use Rattle.runs.proofs.SolutionPeriod.{period-above, period-within}
 
 -- ---- the definition by its members
-is-in : (r : Run) (x : ℤ) → (isIn r x ≡ true) ↔ InRun r x
+pub is-in : (r : Run) (x : ℤ) → (isIn r x ≡ true) ↔ InRun r x
 unfolding isIn
 is-in r x = Iff·trans (any-iff (isEqual x) (numbers r)) (to, from)
   where

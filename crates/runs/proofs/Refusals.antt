@@ -143,7 +143,7 @@ in-limits-iff e = (to, from)
     )
 
 -- ---- the answers
-not-both : {r : Run} {m n : ℕ} → run r ≡ refused m n → ⊥
+pub not-both : {r : Run} {m n : ℕ} → run r ≡ refused m n → ⊥
 not-both {r} {m} {n} e = let z : _≡_ {A = ℕ} 0 1 = cc in omega arith
 
 pub meeting-gives : {a b : Run} → OneForm a → OneForm b → meeting a b ≡ run (meet a b)

@@ -6,7 +6,7 @@ use mathlib.Core.List.{List, [], _∷_}
 use lib.ListN.{length}
 use lib.IntN.{ℤ, pos, negℤ, _+ℤ_, _-ℤ_, _*ℤ_}
 use Rattle.ints.specs.Equal.{isEqual}
-use Rattle.lists.specs.Keep.{keep, any}
+use Rattle.lists.specs.Keep.{keep, any, every}
 use Rattle.lists.specs.Range.{range}
 use Rattle.runs.specs.Run.{Run, numbers, InRun, empty, bound}
 
@@ -45,3 +45,7 @@ passing test = runOf (keep test (range (negℤ (pos bound)) (pos bound)))
 -- "the run of all p within ±1,000,000,000 that have a partner q in the run"
 unfoldable pub carry : ℤ → ℤ → ℤ → Run → Run
 carry a b c q = passing (hasPartner a b c q)
+
+-- of a list of runs: the run of the numbers that are in every one of them
+unfoldable pub meetAll : List Run → Run
+meetAll rs = passing (λ x. every (λ r. isIn r x) rs)

@@ -8,6 +8,7 @@ use Rattle.runs.specs.Run.{Run, numbers, isOneForm, empty}
 use Rattle.runs.specs.Search.{runOf, meet, hasPartner}
 use Rattle.ints.specs.Floor.{floorDiv, floorMod, ceilDiv}
 use Rattle.runs.specs.Workings.{meeting, run, refused}
+use Rattle.runs.specs.Groupings.{alone, pair, leaves, met, worked}
 use Rattle.runs.specs.Method.{clip, between, image, placesIn}
 
 -- −3, 1, 5
@@ -28,9 +29,9 @@ unfolding runOf
 read-back = (refl, refl, refl)
 
 -- 1 and 5 are in both; of 2, 4 none is
-met : (meet three odd ≡ record { first = pos 1; step = pos 4; many = 2 }) × (meet odd (record { first = pos 2; step = pos 2; many = 2 }) ≡ empty)
+meets : (meet three odd ≡ record { first = pos 1; step = pos 4; many = 2 }) × (meet odd (record { first = pos 2; step = pos 2; many = 2 }) ≡ empty)
 unfolding meet
-met = (refl, refl)
+meets = (refl, refl)
 
 -- 3·p − 5·q = 0: p = 5 goes with q = 3, and p = 4 with none
 partnered : (hasPartner (pos 3) (negsuc 4) (pos 0) odd (pos 5) ≡ true) × (hasPartner (pos 3) (negsuc 4) (pos 0) odd (pos 4) ≡ false)
@@ -51,6 +52,32 @@ formed = (refl, refl, refl)
 answered : (meeting three odd ≡ run record { first = pos 1; step = pos 4; many = 2 }) × (meeting three (record { first = pos 5; step = pos 0; many = 2 }) ≡ refused 9 0)
 unfolding meet every numbers
 answered = (refl, refl)
+
+-- ---- several runs
+-- 0, 3, .., 30; 4, 6, .., 40; and 10 to 25: in all of them are 12, 18 and 24
+abbrev threes : Run
+threes = record { first = pos 0; step = pos 3; many = 11 }
+
+abbrev evens : Run
+evens = record { first = pos 4; step = pos 2; many = 19 }
+
+abbrev tens : Run
+tens = record { first = pos 10; step = pos 1; many = 16 }
+
+abbrev common : Run
+common = record { first = pos 12; step = pos 6; many = 3 }
+
+grouped : (leaves (pair (pair (alone threes) (alone evens)) (alone tens)) ≡ threes ∷ evens ∷ tens ∷ []) ×
+    (met (pair (pair (alone threes) (alone evens)) (alone tens)) ≡ common) × (met (pair (alone tens) (pair (alone threes) (alone evens))) ≡ common)
+unfolding leaves met meet
+grouped = (refl, refl, refl)
+
+-- the same by workings; and with a falling run, in either grouping
+sequenced : (worked (pair (pair (alone threes) (alone evens)) (alone tens)) ≡ run common) ×
+    (worked (pair (pair (alone threes) (alone evens)) (alone record { first = pos 5; step = negsuc 0; many = 3 })) ≡ refused 9 0) ×
+    (worked (pair (alone threes) (pair (alone evens) (alone record { first = pos 5; step = negsuc 0; many = 3 }))) ≡ refused 9 0)
+unfolding worked meet every numbers
+sequenced = (refl, refl, refl)
 
 -- ---- the method, where document 01's wrong plans would go another way
 -- of the multiples of 5 none lies from 2 to 3, and from 2 to 11 there are 5 and 10; one alone has step 0
