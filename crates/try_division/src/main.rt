@@ -60,13 +60,13 @@ fn show(n: i64, d: i64) {
 // How many of the first pairs agree: the small ones, or the pseudo-random ones.
 fn agreeing(small: bool, pairs: u64) -> u64 {
     let mut agree: u64 = 0;
-    let mut seed: u64 = 88172645463325252;
+    let mut seed = pseudo_random::SEED;
     let mut i: u64 = 0;
     while i < pairs {
         if agrees_at(small, i, seed) {
             agree = std::num::wrapping_add_u64(agree, 1);
         }
-        seed = next(next(seed));
+        seed = pseudo_random::next(pseudo_random::next(seed));
         i += 1;
     }
     agree
@@ -91,18 +91,11 @@ fn small_pair(i: u64) -> bool {
 // Sizes by i, numbers by the seed; a divisor of 0 is taken for -1.
 fn random_pair(i: u64, seed: u64) -> bool {
     let n = random(seed, i % 5);
-    let d = random(next(seed), i / 5 % 5);
+    let d = random(pseudo_random::next(seed), i / 5 % 5);
     if d == 0 {
         return agrees(n, -1);
     }
     agrees(n, d)
-}
-
-// Marsaglia's xorshift on 64 bits.
-fn next(x: u64) -> u64 {
-    let a = x ^ (x << 13);
-    let b = a ^ (a >> 7);
-    b ^ (b << 17)
 }
 
 fn random(seed: u64, kind: u64) -> i64 {

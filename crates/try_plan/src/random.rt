@@ -6,15 +6,12 @@ use crate::format::Row;
 use crate::search::times;
 use crate::search::wide;
 
-/// What every draw starts from.
-pub const SEED: u64 = 88172645463325252;
-
 /// Job i. What is given is its length.
 ///
 /// Form 0 has any c; form 1 a point at which all equations hold; form 2 a line of such points; form 3 a line that the last row crosses
 /// at that point or near it.
 pub(crate) fn write(b: &mut Buffer, i: u64) -> u32 {
-    let seed = mixed(i);
+    let seed = pseudo_random::mixed(i);
     let n = 1 + draw(seed, 0, 5) % 5;
     let m = if n == 1 { 0 } else { draw(seed, 1, 7) };
     let length = format::job_header(b, n as u16, m as u16);
@@ -142,7 +139,7 @@ fn product(x: u8, y: u8) -> u8 {
 // A number below the limit, or 0, for a job's seed and a place in the job.
 fn draw(seed: u64, place: u64, limit: u8) -> u8 {
     below(
-        mixed(std::num::wrapping_add_u64(seed, place)) / 65536,
+        pseudo_random::mixed(std::num::wrapping_add_u64(seed, place)) / 65536,
         limit,
     )
 }
@@ -153,15 +150,4 @@ fn below(x: u64, limit: u8) -> u8 {
     } else {
         (x % limit as u64 % 256) as u8
     }
-}
-
-fn mixed(x: u64) -> u64 {
-    next(next(next(std::num::wrapping_add_u64(x, SEED))))
-}
-
-// Marsaglia's xorshift on 64 bits.
-fn next(x: u64) -> u64 {
-    let a = x ^ (x << 13);
-    let b = a ^ (a >> 7);
-    b ^ (b << 17)
 }

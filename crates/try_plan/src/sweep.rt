@@ -14,7 +14,7 @@ pub(crate) fn all(b: &mut Buffer) {
     print::text(b"random");
     let t = compared(b);
     print::counted(b" jobs ", t.jobs);
-    print::counted(b" seed ", random::SEED);
+    print::counted(b" seed ", pseudo_random::SEED);
     print::counted(b" differ ", t.differ);
     print::text(b"\n");
     kinds::report(b, JOBS);
