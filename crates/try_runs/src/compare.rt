@@ -2,18 +2,12 @@
 //! equations whose a and b are 1 to 4 in size and whose c is within ±9.
 
 use crate::search;
+use crate::tally;
+use crate::tally::Tally;
 use crate::task;
 use crate::task::RunBits;
 use crate::task::Task;
 use runs::Working;
-
-/// How many cases agree; and how many results of the search are empty, one number and longer.
-struct Tally {
-    agree: u64,
-    empty: u64,
-    single: u64,
-    longer: u64,
-}
 
 // 13 first numbers, 13 steps and 14 lengths; the runs are those in their one form.
 const RUNS: u64 = 2366;
@@ -23,90 +17,38 @@ const EQUATIONS: u64 = 1539;
 
 /// The cases that disagree stand on lines above the working's two.
 pub(crate) fn all(working: &[u8], cases: &[u8], carry: bool) {
-    let t = tried(carry, if carry { EQUATIONS } else { RUNS });
-    print::text(working);
-    print::counted(cases, t.agree);
-    print::text(b" agree\n");
-    print::text(working);
-    print::counted(b" results ", t.empty);
-    print::counted(b" empty ", t.single);
-    print::counted(b" single ", t.longer);
-    print::text(b" longer\n");
+    tried(carry, if carry { EQUATIONS } else { RUNS }).show(working, cases);
 }
 
 // The tasks whose code is below the end.
 fn tried(carry: bool, end: u64) -> Tally {
-    let mut t = Tally {
-        agree: 0,
-        empty: 0,
-        single: 0,
-        longer: 0,
-    };
+    let mut t = tally::none();
     let mut code: u64 = 0;
     while code < end {
         let task = task_at(carry, code);
         if is_task(task) {
-            t = t.over_runs(task);
+            t = over_runs(t, task);
         }
         code += 1;
     }
     t
 }
 
-impl Tally {
-    // With each run.
-    fn over_runs(self, task: Task) -> Tally {
-        let mut t = self;
-        let mut code: u64 = 0;
-        while code < RUNS {
-            let r = run_at(code);
-            if is_run(r) {
-                t = t.with(task, r);
-            }
-            code += 1;
+// With each run.
+fn over_runs(before: Tally, task: Task) -> Tally {
+    let mut t = before;
+    let mut code: u64 = 0;
+    while code < RUNS {
+        let r = run_at(code);
+        if is_run(r) {
+            let e = search::result(task, r);
+            let expected = Working::Gives(task::run_of(e.first, e.step, e.many));
+            t = t.with(e.many)
+                .agreeing(task::agrees(task::ask(task, r), expected));
         }
-        t
+        code += 1;
     }
-
-    fn with(self, task: Task, r: RunBits) -> Tally {
-        let mut t = self;
-        let expected = search::result(task, r);
-        let many = expected.many;
-        match many {
-            0 => {
-                t.empty = std::num::wrapping_add_u64(self.empty, 1);
-            }
-            1 => {
-                t.single = std::num::wrapping_add_u64(self.single, 1);
-            }
-            _ => {
-                t.longer = std::num::wrapping_add_u64(self.longer, 1);
-            }
-        }
-        if agrees(task::ask(task, r), expected) {
-            t.agree = std::num::wrapping_add_u64(self.agree, 1);
-        }
-        t
-    }
-}
-
-// If not, the answer is printed, and what is expected.
-fn agrees(answer: Working, expected: RunBits) -> bool {
-    match answer {
-        Working::Gives(r) => {
-            if task::bits(r.first) == expected.first {
-                if task::bits(r.step) == expected.step {
-                    if r.many as u64 == expected.many {
-                        return true;
-                    }
-                }
-            }
-        }
-        Working::Refused(_) => {}
-    }
-    print::text(b"disagree:");
-    task::show(answer);
-    false
+    t
 }
 
 // First number -6..=6, step 0..=12, 0 to 13 numbers.

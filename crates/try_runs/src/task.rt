@@ -32,7 +32,7 @@ pub(crate) fn ask(t: Task, r: RunBits) -> Working {
     runs::meeting(run_of(t.a, t.b, t.c), q)
 }
 
-fn run_of(first: u64, step: u64, many: u64) -> Run {
+pub(crate) fn run_of(first: u64, step: u64, many: u64) -> Run {
     Run {
         first: signed(first),
         step: signed(step),
@@ -71,4 +71,42 @@ pub(crate) fn show(w: Working) {
         }
     }
     print::text(b"\n");
+}
+
+/// Are the two answers one? If not, both are printed.
+pub(crate) fn agrees(x: Working, y: Working) -> bool {
+    if is_same(x, y) {
+        return true;
+    }
+    print::text(b"disagree:");
+    show(x);
+    print::text(b"and:");
+    show(y);
+    false
+}
+
+fn is_same(x: Working, y: Working) -> bool {
+    match x {
+        Working::Gives(a) => match y {
+            Working::Gives(b) => is_same_run(a, b),
+            Working::Refused(_) => false,
+        },
+        Working::Refused(a) => match y {
+            Working::Gives(_) => false,
+            Working::Refused(b) => if a.number() == b.number() {
+                a.row() == b.row()
+            } else {
+                false
+            },
+        },
+    }
+}
+
+fn is_same_run(a: Run, b: Run) -> bool {
+    if a.first == b.first {
+        if a.step == b.step {
+            return a.many == b.many;
+        }
+    }
+    false
 }

@@ -8,4 +8,4 @@ pub tried-spec : {M : Type 1} → statement M
 tried-spec =
     tie.close
     (tie.spec (λ carry end t₀ code₀ t code. code ≤ end) (λ carry end t₀ code₀ t code. end - code) (search needs)
-    (search needs) (search needs) (search needs) (search needs) (search needs) (search needs) (search needs))
+    (search needs) (search needs) (search needs) (search needs) (search needs) (search needs) (search needs) (search needs))
