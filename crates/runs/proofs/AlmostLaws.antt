@@ -1,11 +1,11 @@
 -- Statements that are nearly laws of meeting, and where they fail.
-use mathlib.Core.Path.{_≡_, refl, sym, _∙_, ap}
+use mathlib.Core.Path.{_≡_, sym, ap}
 use Prim.Native.Nat.{ℕ}
 use Rattle.ints.proofs.{pos, negsuc, natAbs, arith}
 use Rattle.lists.specs.Keep.{every}
 use Rattle.runs.specs.Run.{Run, numbers, empty, full}
 use Rattle.runs.specs.Search.{meet}
-use Rattle.runs.specs.Workings.{WorkingAnswer, run, refused, meeting}
+use Rattle.runs.specs.Workings.{run, meeting}
 use Rattle.runs.specs.Groupings.{meetAnswers}
 use Rattle.runs.proofs.Refusals.{not-both}
 

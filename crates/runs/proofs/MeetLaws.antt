@@ -1,18 +1,17 @@
 -- The laws of meeting, by members: a run in its one form is determined by them (`by-members`), and x is in a meet exactly when it is in
 -- both (`in-meet`).
-use mathlib.Core.Path.{_≡_, refl, sym, _∙_, ap}
-use mathlib.Core.Logic.{_↔_, ⊎-elim, inl, inr, Iff·trans}
+use mathlib.Core.Path.{_≡_, refl, sym, _∙_}
+use mathlib.Core.Logic.{_↔_, ⊎-elim, Iff·trans}
 use mathlib.Core.Bool.{true}
 use mathlib.Core.List.{List, [], _∷_, _++_, Memᴰ·append-left, Memᴰ·append-right}
 use Rattle.ints.proofs.{ℤ}
-use Rattle.ints.specs.Within.{Within}
-use Rattle.lists.specs.Members.{_∈_, here, there}
+use Rattle.lists.specs.Members.{_∈_, here}
 use Rattle.lists.specs.Keep.{every}
 use Rattle.lists.specs.Permutation.{Permutation}
 use Rattle.lists.proofs.Members.{in-append}
 use Rattle.lists.proofs.Keep.{every-iff}
 use Rattle.lists.proofs.Permutation.{every-permuted}
-use Rattle.runs.specs.Run.{Run, InRun, OneForm, isOneForm, empty, full, bound}
+use Rattle.runs.specs.Run.{Run, InRun, OneForm, isOneForm, full}
 use Rattle.runs.specs.Search.{isIn, meet, passing, meetAll}
 use Rattle.runs.specs.Groupings.{Grouping, alone, pair, leaves, met}
 use Rattle.runs.specs.MeetLaws.{MeetLaws}

@@ -1,9 +1,7 @@
 -- The laws of the meeting working, on any arguments: from those of `meet` where all runs are in their one form, and reason 9 elsewhere.
 use mathlib.Core.Path.{_≡_, refl, sym, _∙_, ap}
-use mathlib.Core.Bool.{Bool, true, false, _&&_, cond, and-eq-true-iff, and-self, and-comm, and-assoc}
-use mathlib.Core.List.{List, [], _∷_, _++_}
+use mathlib.Core.Bool.{Bool, true, false, _&&_, and-eq-true-iff, and-self, and-comm}
 use Rattle.lists.specs.Keep.{every}
-use Rattle.lists.specs.Permutation.{Permutation}
 use Rattle.lists.proofs.Keep.{every-append}
 use Rattle.lists.proofs.Permutation.{every-permuted}
 use Rattle.runs.specs.Run.{Run, OneForm, isOneForm, empty, full}

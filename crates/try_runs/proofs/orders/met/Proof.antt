@@ -1,5 +1,5 @@
 -- `try_runs::orders::met` meets its contract.
-use Prim.Native.Nat.{_-_, _≤_}
+use Prim.Native.Nat.{_≤_}
 use native.Mathlib.Omega.{arith}
 use borrow.Author.Needs.{needs}
 use Rattle.try_runs.proofs.orders.met.Statement.{statement}
