@@ -33,6 +33,12 @@ module _ {A : Type 0} where
   pub in-append : (xs ys : List A) (z : A) → z ∈ xs ++ ys ↔ ((z ∈ xs) ⊎ (z ∈ ys))
   in-append xs ys z = (List·Memᴰ·append-cases xs, ⊎-elim (Memᴰ·append-left ys) (Memᴰ·append-right xs))
 
+  pub each-append : (P : A → Type 0) (xs ys : List A) → ((z : A) → z ∈ xs ++ ys → P z) ↔ (((z : A) → z ∈ xs → P z) × ((z : A) → z ∈ ys → P z))
+  each-append P xs ys = (
+    λ f. (λ z m. f z (Memᴰ·append-left ys m), λ z m. f z (Memᴰ·append-right xs m)),
+    λ (f, g) z m. ⊎-elim (f z) (g z) (in-append xs ys z .0 m),
+  )
+
 -- ---- a function put to each member, and a list in the place of each
 module _ {A B : Type 0} where
   pub in-map : (f : A → B) (xs : List A) (z : B) → z ∈ map f xs ↔ ((x : A) × (x ∈ xs) × (z ≡ f x))

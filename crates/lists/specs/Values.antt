@@ -1,11 +1,13 @@
 -- The definitions at worked values, computed.
 use mathlib.Core.Path.{_≡_, refl}
 use mathlib.Core.Bool.{true, false}
-use Prim.Native.Nat.{_*_, _%_}
+use Prim.Native.Nat.{ℕ, _*_, _%_}
+use native.Mathlib.Omega.{arith}
 use lib.Signed.{leZ}
-use mathlib.Core.List.{[], _∷_}
+use mathlib.Core.List.{[], _∷_, Perm·swap, Perm·length-eq}
 use lib.IntN.{pos, negsuc, _*ℤ_}
 use Rattle.lists.specs.Keep.{keep, every, any, place}
+use Rattle.lists.specs.Permutation.{Permutation}
 use Rattle.lists.specs.Table.{table}
 use Rattle.lists.specs.Range.{range}
 use Rattle.lists.specs.Lexicographic.{Lower, now, later}
@@ -27,6 +29,13 @@ kept = refl
 tested : (every (λ x. leZ x (pos 1)) (range (negsuc 1) (pos 1)) ≡ true) × (any (λ x. leZ (pos 1) x) (range (negsuc 1) (pos 0)) ≡ false)
 unfolding every any range
 tested = (refl, refl)
+
+-- two exchanged; and 1, 1 is not 1, since each member counts as often as it stands there
+exchanged : Permutation (pos 1 ∷ pos 2 ∷ pos 3 ∷ []) (pos 2 ∷ pos 1 ∷ pos 3 ∷ [])
+exchanged = Perm·swap (pos 2) (pos 1) (pos 3 ∷ [])
+
+as-often : ¬ (Permutation (pos 1 ∷ pos 1 ∷ []) (pos 1 ∷ []))
+as-often h = let e = Perm·length-eq h in let z : _≡_ {A = ℕ} 0 1 = cc in omega arith
 
 -- two members come before the first that is above 0
 placed : place (λ x. leZ (pos 1) x) (range (negsuc 0) (pos 2)) ≡ 2
