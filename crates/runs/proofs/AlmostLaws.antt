@@ -1,13 +1,13 @@
 -- Statements that are nearly laws of meeting, and where they fail.
-use mathlib.Core.Path.{_≡_, sym, ap}
+use mathlib.Core.Path.{_≡_, refl, sym, ap}
 use Prim.Native.Nat.{ℕ}
 use Rattle.ints.proofs.{pos, negsuc, natAbs, arith}
 use Rattle.lists.specs.Keep.{every}
-use Rattle.runs.specs.Run.{Run, numbers, empty, full}
+use Rattle.runs.specs.Run.{Run, OneForm, numbers, empty, full}
 use Rattle.runs.specs.Search.{meet}
 use Rattle.runs.specs.Workings.{run, meeting}
 use Rattle.runs.specs.Groupings.{meetAnswers}
-use Rattle.runs.proofs.Refusals.{not-both}
+use Rattle.runs.proofs.Refusals.{one-form-iff, not-both}
 
 -- 5, 4, 3: not in its one form
 abbrev falling : Run
@@ -17,22 +17,26 @@ falling = record { first = pos 5; step = negsuc 0; many = 3 }
 abbrev rising : Run
 rising = record { first = pos 3; step = pos 1; many = 3 }
 
+rising-formed : OneForm rising
+unfolding every numbers
+rising-formed = one-form-iff rising .0 refl
+
 -- a run met with itself is not the full range
-not-full : ¬ (meet rising rising ≡ full)
+not-full : ¬ ((a : Run) → OneForm a → meet a a ≡ full)
 unfolding meet
-not-full e = let z : _≡_ {A = ℕ} 3 2000000001 = ap (λ r. r .many) e in omega arith
+not-full law = let z : _≡_ {A = ℕ} 3 2000000001 = ap (λ r. r .many) (law rising rising-formed) in omega arith
 
 -- empty is not neutral
-not-neutral : ¬ (meet empty rising ≡ rising)
+not-neutral : ¬ ((a : Run) → OneForm a → meet empty a ≡ a)
 unfolding meet
-not-neutral e = let z : _≡_ {A = ℕ} 0 3 = ap (λ r. r .many) e in omega arith
+not-neutral law = let z : _≡_ {A = ℕ} 0 3 = ap (λ r. r .many) (law rising rising-formed) in omega arith
 
--- without the one form `meet` is not commutative: the first run says the order
-not-commutative : ¬ (meet rising falling ≡ meet falling rising)
+-- where only one is in its one form two runs cannot be exchanged: the first says the order
+not-commutative : ¬ ((a b : Run) → OneForm a → meet a b ≡ meet b a)
 unfolding meet
-not-commutative e = let z : _≡_ {A = ℕ} 3 5 = ap (λ r. natAbs (r .first)) e in omega arith
+not-commutative law = let z : _≡_ {A = ℕ} 3 5 = ap (λ r. natAbs (r .first)) (law rising falling rising-formed) in omega arith
 
--- without the one form the workings come to no meet
-not-met : ¬ (meetAnswers (meeting rising rising) (run falling) ≡ run (meet rising (meet rising falling)))
+-- where one is not in its one form the workings come to no meet
+not-met : ¬ ((a b c : Run) → meetAnswers (meeting a b) (run c) ≡ run (meet a (meet b c)))
 unfolding meet every numbers
-not-met e = not-both (sym e)
+not-met law = not-both (sym (law rising rising falling))
