@@ -2,9 +2,10 @@
 -- range; the model works it out.
 use mathlib.Core.Path.{_≡_, refl, sym, _∙_, ap}
 use mathlib.Core.Bool.{true}
-use mathlib.Core.List.{List, [], _∷_, Perm·refl}
+use mathlib.Core.List.{List, [], _∷_, Perm·refl, reverse-perm}
 use Prim.Native.Nat.{ℕ}
 use Rattle.ints.proofs.{ℤ, pos, negsuc}
+use Rattle.lists.specs.Members.{_∈_}
 use Rattle.lists.specs.Keep.{every}
 use Rattle.runs.specs.Run.{Run, OneForm, numbers, isOneForm, empty, full}
 use Rattle.runs.specs.Search.{meet, carry, meetAll}
@@ -52,10 +53,25 @@ unfolding meetModel carryModel
 full-job = by-model (pos 1000000) (negsuc 999998) (pos 1) full full (record { first = negsuc 999998998; step = pos 999999; many = 2000 }) refl full-form full-form refl
 
 -- ---- three sheets of limits: 0, 3, .., 30; 4, 6, .., 40; and 10 to 25
+abbrev threes : Run
+threes = record { first = pos 0; step = pos 3; many = 11 }
+
+abbrev evens : Run
+evens = record { first = pos 4; step = pos 2; many = 19 }
+
 abbrev sheets : List Run
-sheets = record { first = pos 0; step = pos 3; many = 11 } ∷ record { first = pos 4; step = pos 2; many = 19 } ∷ bounds (pos 10) 16 ∷ []
+sheets = threes ∷ evens ∷ bounds (pos 10) 16 ∷ []
+
+formed : (r : Run) → r ∈ sheets → OneForm r
+unfolding every numbers
+formed = all-formed-iff sheets .0 refl
 
 -- 12, 18 and 24 are in all of them
 pub three-sheets : meetAll sheets ≡ record { first = pos 12; step = pos 6; many = 3 }
-unfolding every numbers leaves met meet
-three-sheets = sym (meet-laws .any-way (pair (pair (alone _) (alone _)) (alone _)) sheets (Perm·refl sheets) (all-formed-iff sheets .0 refl))
+unfolding leaves met meet
+three-sheets = sym (meet-laws .any-way (pair (pair (alone threes) (alone evens)) (alone _)) sheets (Perm·refl sheets) formed)
+
+-- and so the last sheet first comes to the same
+pub last-first : meet (bounds (pos 10) 16) (meet evens threes) ≡ meetAll sheets
+unfolding leaves met
+last-first = meet-laws .any-way (pair (alone _) (pair (alone evens) (alone threes))) sheets (reverse-perm sheets) formed

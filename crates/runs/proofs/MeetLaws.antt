@@ -1,17 +1,17 @@
 -- The laws of meeting, by members: a run in its one form is determined by them (`by-members`), and x is in a meet exactly when it is in
 -- both (`in-meet`).
 use mathlib.Core.Path.{_≡_, refl, sym, _∙_}
-use mathlib.Core.Logic.{_↔_, ⊎-elim, Iff·trans}
+use mathlib.Core.Logic.{_↔_, Iff·trans}
 use mathlib.Core.Bool.{true}
-use mathlib.Core.List.{List, [], _∷_, _++_, Memᴰ·append-left, Memᴰ·append-right}
+use mathlib.Core.List.{List, [], _∷_}
 use Rattle.ints.proofs.{ℤ}
 use Rattle.lists.specs.Members.{_∈_, here}
 use Rattle.lists.specs.Keep.{every}
 use Rattle.lists.specs.Permutation.{Permutation}
-use Rattle.lists.proofs.Members.{in-append}
+use Rattle.lists.proofs.Members.{each-append}
 use Rattle.lists.proofs.Keep.{every-iff}
 use Rattle.lists.proofs.Permutation.{every-permuted}
-use Rattle.runs.specs.Run.{Run, InRun, OneForm, isOneForm, full}
+use Rattle.runs.specs.Run.{Run, InRun, OneForm, isOneForm}
 use Rattle.runs.specs.Search.{isIn, meet, passing, meetAll}
 use Rattle.runs.specs.Groupings.{Grouping, alone, pair, leaves, met}
 use Rattle.runs.specs.MeetLaws.{MeetLaws}
@@ -49,18 +49,11 @@ all-formed-iff rs = Iff·trans (every-iff isOneForm rs) (λ f r m. one-form-iff 
 abbrev InAll : List Run → ℤ → Type 0
 InAll rs x = (r : Run) → r ∈ rs → InRun r x
 
-in-all-append : (rs ss : List Run) (x : ℤ) → InAll (rs ++ ss) x ↔ (InAll rs x × InAll ss x)
-in-all-append rs ss x = (
-  λ f. (λ r m. f r (Memᴰ·append-left ss m), λ r m. f r (Memᴰ·append-right rs m)),
-  λ (f, g) r m. ⊎-elim (f r) (g r) (in-append rs ss r .0 m),
-)
-
 -- a grouping has one run, of the numbers that are in all its leaves
 pub met-form : (g : Grouping) → AllFormed (leaves g) → OneForm (met g)
 unfolding leaves met
 met-form (alone r) f = f r (here refl)
-met-form (pair g h) f =
-    meet-form (met-form g (λ r m. f r (Memᴰ·append-left (leaves h) m))) (met-form h (λ r m. f r (Memᴰ·append-right (leaves g) m)))
+met-form (pair g h) f = let (f₀, f₁) = each-append OneForm (leaves g) (leaves h) .0 f in meet-form (met-form g f₀) (met-form h f₁)
 
 in-met : (g : Grouping) → AllFormed (leaves g) → (x : ℤ) → InRun (met g) x ↔ InAll (leaves g) x
 unfolding leaves met
@@ -69,11 +62,11 @@ in-met (alone r) f x = (only, λ k. k r (here refl))
     only : InRun r x → InAll (r ∷ []) x
     only k s (here e) = rw e k
 in-met (pair g h) f x =
-    let f₀ : AllFormed (leaves g) = λ r m. f r (Memᴰ·append-left (leaves h) m) in
-    let f₁ : AllFormed (leaves h) = λ r m. f r (Memᴰ·append-right (leaves g) m) in
+    let (f₀, f₁) = each-append OneForm (leaves g) (leaves h) .0 f in
+    let in-each = each-append (λ r. InRun r x) (leaves g) (leaves h) in
     Iff·trans (in-meet (met-form g f₀) (met-form h f₁) x) (
-      λ (k, l). in-all-append (leaves g) (leaves h) x .1 (in-met g f₀ x .0 k, in-met h f₁ x .0 l),
-      λ k. let (k₀, k₁) = in-all-append (leaves g) (leaves h) x .0 k in (in-met g f₀ x .1 k₀, in-met h f₁ x .1 k₁),
+      λ (k, l). in-each .1 (in-met g f₀ x .0 k, in-met h f₁ x .0 l),
+      λ k. let (k₀, k₁) = in-each .0 k in (in-met g f₀ x .1 k₀, in-met h f₁ x .1 k₁),
     )
 
 pub is-meetAll : (g : Grouping) → AllFormed (leaves g) → met g ≡ meetAll (leaves g)
@@ -87,12 +80,9 @@ pub meetAll-permuted : {rs ss : List Run} → Permutation rs ss → meetAll rs �
 unfolding meetAll
 meetAll-permuted h = λ i. passing (λ x. every-permuted (λ r. isIn r x) h i)
 
-without : meetAll [] ≡ full
-unfolding meetAll every
-without = sym (is-passing (λ x. true) full-form (λ x. (λ k. (in-full x .0 k, refl), λ k. in-full x .1 (k .0))))
-
 -- ---- the laws
 pub meet-laws : MeetLaws
+unfolding meetAll every
 meet-laws = record {
   commutative = λ a b o p. by-members (meet-form o p) (meet-form p o) (λ x. (turned o p x, turned p o x));
   associative = λ a b c o p q. by-members (meet-form (meet-form o p) q) (meet-form o (meet-form p q)) (λ x. (to-the-right o p q x, to-the-left o p q x));
@@ -105,6 +95,6 @@ meet-laws = record {
     by-members (meet-form empty-form o) empty-form (λ x. (λ k. in-meet empty-form o x .0 k .0, not-in-empty)),
     by-members (meet-form o empty-form) empty-form (λ x. (λ k. in-meet o empty-form x .0 k .1, not-in-empty)),
   );
-  none = without;
+  none = sym (is-passing (λ x. true) full-form (λ x. (λ k. (in-full x .0 k, refl), λ k. in-full x .1 (k .0))));
   any-way = λ g rs h f. is-meetAll g (all-formed-iff (leaves g) .0 (every-permuted isOneForm h ∙ all-formed-iff rs .1 f)) ∙ meetAll-permuted h;
 }

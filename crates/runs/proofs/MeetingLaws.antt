@@ -81,14 +81,11 @@ beside {r} a o =
     let left : isOneForm r && isOneForm a ≡ isOneForm a = ap (λ t. t && isOneForm a) (one-form-iff r .1 o) in
     (left, and-comm (isOneForm a) (isOneForm r) ∙ left)
 
-regrouped : (a b c : Run) → meetAnswers (meeting a b) (run c) ≡ meetAnswers (run a) (meeting b c)
-unfolding leaves worked
-regrouped a b c = of-list (pair (alone a) (alone b)) (alone c) ∙ sym (of-list (alone a) (pair (alone b) (alone c)))
-
 pub meeting-laws : MeetingLaws
+unfolding leaves worked
 meeting-laws = record {
   commutative = λ a b. by-law a b (and-comm (isOneForm a) (isOneForm b)) (meet-laws .commutative a b);
-  associative = regrouped;
+  associative = λ a b c. of-list (pair (alone a) (alone b)) (alone c) ∙ sym (of-list (alone a) (pair (alone b) (alone c)));
   idempotent = λ a. by-law a a (and-self (isOneForm a)) (λ o p. meet-laws .idempotent a o);
   full-neutral = λ a. (
     by-law full a (beside a full-form .0) (λ o p. meet-laws .full-neutral a p .0),
