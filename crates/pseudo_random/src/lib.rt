@@ -1,5 +1,6 @@
 //! Pseudo-random numbers for the test programs.
 
+/// What a sequence starts from.
 pub const SEED: u64 = 88172645463325252;
 
 /// The number after x: Marsaglia's xorshift on 64 bits.
