@@ -4,14 +4,15 @@ use mathlib.Core.List.{[], _∷_}
 use mir.Syntax.{w64}
 use mir.Val.{SFits}
 use mir.Facts.{toZ-ofZ}
-use mathlib.Core.Bool.{Bool, true, false, not, _&&_, cond, and-eq-true-iff, false≢true}
+use mathlib.Core.Bool.{Bool, true, false, not, _&&_, and-eq-true-iff, false≢true}
 use native.Mathlib.Omega.{arith}
-use Prim.Native.Nat.{ℕ}
 use lib.IntN.{ℤ, pos}
+use Rattle.reasons.specs.Answer.{gives, refused, answerIf}
+use Rattle.reasons.proofs.Answers.{gives-where, refuses-where, not-both}
 use Rattle.ints.specs.Equal.{isEqual}
 use Rattle.ints.specs.Within.{Within, isWithin}
 use Rattle.ints.specs.Floor.{floorDiv}
-use Rattle.ints.specs.Division.{quotient, refused, limit, DivisionLimits, divisionLimits, division}
+use Rattle.ints.specs.Division.{limit, DivisionLimits, divisionLimits, division}
 use Rattle.ints.proofs.Equal.{equal-true, equal-false}
 use Rattle.ints.proofs.Within.{within-true}
 use Rattle.ints.proofs.Linear.{lin}
@@ -37,27 +38,23 @@ in-limits-into n d h =
     )
 
 -- ---- the answer
-pub gives-floor : (n d : ℤ) → DivisionLimits n d → division n d ≡ quotient (floorDiv n d)
-gives-floor n d h = rw (in-limits-into n d h)
+pub gives-floor : (n d : ℤ) → DivisionLimits n d → division n d ≡ gives (floorDiv n d)
+gives-floor n d = gives-where (in-limits-out n d, in-limits-into n d) (floorDiv n d)
 
 pub refuses : (n d : ℤ) → ¬ DivisionLimits n d → division n d ≡ refused 9 0
-refuses n d h = go (divisionLimits n d) refl
-  where
-    go : (b : Bool) → divisionLimits n d ≡ b → cond b (quotient (floorDiv n d)) (refused 9 0) ≡ refused 9 0
-    go true e = absurd (h (in-limits-out n d e))
-    go false e = refl
+refuses n d = refuses-where (in-limits-out n d, in-limits-into n d) (floorDiv n d)
 
 -- a quotient is the floor, and the arguments were within the limits
 pub record IsQuotient (n d q : ℤ) : Type 0 where
   pub inside : DivisionLimits n d
   pub is : q ≡ floorDiv n d
 
-pub quotient-is : (n d q : ℤ) → quotient q ≡ division n d → IsQuotient n d q
+pub quotient-is : (n d q : ℤ) → gives q ≡ division n d → IsQuotient n d q
 quotient-is n d q e = go (divisionLimits n d) refl e
   where
-    go : (b : Bool) → divisionLimits n d ≡ b → quotient q ≡ cond b (quotient (floorDiv n d)) (refused 9 0) → IsQuotient n d q
+    go : (b : Bool) → divisionLimits n d ≡ b → gives q ≡ answerIf b (floorDiv n d) → IsQuotient n d q
     go true t e = record { inside = in-limits-out n d t; is = cc }
-    go false t e = absurd (let z : _≡_ {A = ℕ} 0 1 = cc in omega arith)
+    go false t e = absurd (not-both e)
 
 -- ---- calls on locals of 64 bits, with the bits taken away: what a call is asked, and what it answers
 pub fits-limit : {n : ℤ} → Within limit n → SFits w64 n

@@ -12,7 +12,8 @@ use mir.Val.{SFits, toZ, ofZ}
 use Rattle.ints.specs.Within.{Within}
 use Rattle.ints.specs.Divides.{Congruent}
 use Rattle.ints.specs.Floor.{floorDiv, floorMod, ceilDiv}
-use Rattle.ints.specs.Division.{quotient, refused, limit, division}
+use Rattle.reasons.specs.Answer.{gives, refused}
+use Rattle.ints.specs.Division.{limit, division}
 use Rattle.ints.proofs.Ring.{ring, terms}
 use Rattle.ints.proofs.Linear.{lin, lin₀, _&_, facts}
 use Rattle.ints.proofs.Products.{prod, within-mul}
@@ -119,8 +120,8 @@ from-10-neg k = floor-iff-neg (pos 10) (negsuc 2) k minus-three
 by-zero : (n : ℤ) → division n (pos 0) ≡ refused 9 0
 by-zero n = refuses n (pos 0) (λ h. h .not-zero refl)
 
-by-one : (n : ℤ) → Within limit n → division n (pos 1) ≡ quotient n
-by-one n h = gives-floor n (pos 1) record { dividend = h; divisor = record { size = omega arith }; not-zero = lin₀ [] (search facts depth 20) (omega arith) } ∙ ap quotient (sym is)
+by-one : (n : ℤ) → Within limit n → division n (pos 1) ≡ gives n
+by-one n h = gives-floor n (pos 1) record { dividend = h; divisor = record { size = omega arith }; not-zero = lin₀ [] (search facts depth 20) (omega arith) } ∙ ap gives (sym is)
   where
     is : n ≡ floorDiv n (pos 1)
     is = div-mod-unique n (pos 1) n (pos 0) (ltZ-yes tt) (ring (n ∷ []) (search terms depth 20) (search terms depth 20) tt) (leZ-yes tt) (ltZ-yes tt) .0

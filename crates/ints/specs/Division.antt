@@ -1,23 +1,19 @@
 -- Document 01, "Workings": what division answers for every pair of numbers.
-use mathlib.Core.Bool.{Bool, not, _&&_, cond}
+use mathlib.Core.Bool.{Bool, not, _&&_}
 use mathlib.Core.Logic.{_≢_}
 use Prim.Native.Nat.{ℕ}
 use lib.IntN.{ℤ, pos}
 use Rattle.reasons.specs.Numbers.{numberOf, rowOf}
+use Rattle.reasons.specs.Answer.{WorkingAnswer, gives, refused, answerIf}
 use Rattle.ints.specs.Within.{Within, isWithin}
 use Rattle.ints.specs.Equal.{isEqual}
 use Rattle.ints.specs.Floor.{floorDiv}
 use Rattle.ints.specs.declared.Division.{Division}
 use Rattle.ints.specs.declared.Division.the-variants.{Quotient, Refused}
 
--- an answer in document 01's terms: a quotient, or refused with a reason and a row
-pub data DivisionAnswer : Type 0 where
-  quotient : ℤ → DivisionAnswer
-  refused : ℕ → ℕ → DivisionAnswer
-
 -- what each case of the program's enum says
-abbrev pub divisionAnswerOf : Division → DivisionAnswer
-divisionAnswerOf (Quotient q) = quotient q
+abbrev pub divisionAnswerOf : Division → WorkingAnswer ℤ
+divisionAnswerOf (Quotient q) = gives q
 divisionAnswerOf (Refused r) = refused (numberOf r) (rowOf r)
 
 abbrev pub limit : ℕ
@@ -34,5 +30,5 @@ abbrev pub divisionLimits : ℤ → ℤ → Bool
 divisionLimits n d = isWithin limit n && (isWithin limit d && not (isEqual d (pos 0)))
 
 -- the quotient rounded down, or reason 9
-abbrev pub division : ℤ → ℤ → DivisionAnswer
-division n d = cond (divisionLimits n d) (quotient (floorDiv n d)) (refused 9 0)
+abbrev pub division : ℤ → ℤ → WorkingAnswer ℤ
+division n d = answerIf (divisionLimits n d) (floorDiv n d)

@@ -2,7 +2,8 @@
 use mathlib.Core.Path.{_≡_, refl}
 use lib.IntN.{pos, negsuc}
 use Rattle.ints.specs.Floor.{floorDiv, floorMod, ceilDiv}
-use Rattle.ints.specs.Division.{division, quotient, refused}
+use Rattle.reasons.specs.Answer.{gives, refused}
+use Rattle.ints.specs.Division.{division}
 
 -- ---- floor division: document 01 has −7 by 2 is −4, 7 by −2 is −4 and −8 by 2 is −4
 floors : (floorDiv (negsuc 6) (pos 2) ≡ negsuc 3) × (floorDiv (pos 7) (negsuc 1) ≡ negsuc 3) × (floorDiv (negsuc 7) (pos 2) ≡ negsuc 3)
@@ -25,7 +26,7 @@ unfolding ceilDiv floorDiv
 ceilings = (refl, refl, refl)
 
 -- ---- the division working: at a limit, past it, and by 0
-at-limit : division (pos 4000000000000000000) (negsuc 0) ≡ quotient (negsuc 3999999999999999999)
+at-limit : division (pos 4000000000000000000) (negsuc 0) ≡ gives (negsuc 3999999999999999999)
 unfolding floorDiv
 at-limit = refl
 

@@ -1,2 +1,6 @@
--- What a reason says in document 01's numbers.
+-- What the contracts of the workings cite.
+
+-- what a reason says in document 01's numbers
 pub mod Numbers
+-- what a working answers
+pub mod Answer

@@ -2,12 +2,14 @@
 use mathlib.Core.Path.{_≡_, refl, sym, ap}
 use Prim.Native.Nat.{ℕ}
 use Rattle.ints.proofs.{pos, negsuc, natAbs, arith}
+use Rattle.reasons.specs.Answer.{gives}
+use Rattle.reasons.proofs.Answers.{not-both}
 use Rattle.lists.specs.Keep.{every}
 use Rattle.runs.specs.Run.{Run, OneForm, numbers, empty, full}
 use Rattle.runs.specs.Search.{meet}
-use Rattle.runs.specs.Workings.{run, meeting}
+use Rattle.runs.specs.Workings.{meeting}
 use Rattle.runs.specs.Groupings.{meetAnswers}
-use Rattle.runs.proofs.Refusals.{one-form-iff, not-both}
+use Rattle.runs.proofs.Refusals.{one-form-iff}
 
 -- 5, 4, 3: not in its one form
 abbrev falling : Run
@@ -37,6 +39,6 @@ unfolding meet
 not-commutative law = let z : _≡_ {A = ℕ} 3 5 = ap (λ r. natAbs (r .first)) (law rising falling rising-formed) in omega arith
 
 -- where one is not in its one form the workings come to no meet
-not-met : ¬ ((a b c : Run) → meetAnswers (meeting a b) (run c) ≡ run (meet a (meet b c)))
+not-met : ¬ ((a b c : Run) → meetAnswers (meeting a b) (gives c) ≡ gives (meet a (meet b c)))
 unfolding meet every numbers
 not-met law = not-both (sym (law rising rising falling))

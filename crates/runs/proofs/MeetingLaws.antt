@@ -1,12 +1,13 @@
 -- The laws of the meeting working, on any arguments: from those of `meet` where all runs are in their one form, and reason 9 elsewhere.
 use mathlib.Core.Path.{_≡_, refl, sym, _∙_, ap}
 use mathlib.Core.Bool.{Bool, true, false, _&&_, and-eq-true-iff, and-self, and-comm}
+use Rattle.reasons.specs.Answer.{WorkingAnswer, gives, refused, answerIf}
 use Rattle.lists.specs.Keep.{every}
 use Rattle.lists.proofs.Keep.{every-append}
 use Rattle.lists.proofs.Permutation.{every-permuted}
 use Rattle.runs.specs.Run.{Run, OneForm, isOneForm, empty, full}
 use Rattle.runs.specs.Search.{meet, meetAll}
-use Rattle.runs.specs.Workings.{WorkingAnswer, run, refused, answerIf, meeting}
+use Rattle.runs.specs.Workings.{meeting}
 use Rattle.runs.specs.Groupings.{Grouping, alone, pair, leaves, met, meetAnswers, worked}
 use Rattle.runs.specs.MeetLaws.{MeetingLaws}
 use Rattle.runs.proofs.Members.{empty-form}
@@ -19,23 +20,23 @@ same-answer : {t u : Bool} {r s : Run} → t ≡ u → (t ≡ true → r ≡ s) 
 same-answer {t} {u} {r} {s} e f = go t refl ∙ ap (λ b. answerIf b s) e
   where
     go : (b : Bool) → t ≡ b → answerIf b r ≡ answerIf b s
-    go true h = ap run (f h)
+    go true h = ap gives (f h)
     go false h = refl
 
 -- ---- a grouping, by workings
 -- would the next working take the answer?
-abbrev isTaken : WorkingAnswer → Bool
-isTaken (run r) = isOneForm r
+abbrev isTaken : WorkingAnswer Run → Bool
+isTaken (gives r) = isOneForm r
 isTaken (refused m n) = false
 
-refused-left : (x y : WorkingAnswer) → isTaken x ≡ false → meetAnswers x y ≡ refused 9 0
-refused-left (run a) (run b) e = ap (λ t. answerIf (t && isOneForm b) (meet a b)) e
-refused-left (run a) (refused m n) e = refl
+refused-left : (x y : WorkingAnswer Run) → isTaken x ≡ false → meetAnswers x y ≡ refused 9 0
+refused-left (gives a) (gives b) e = ap (λ t. answerIf (t && isOneForm b) (meet a b)) e
+refused-left (gives a) (refused m n) e = refl
 refused-left (refused m n) y e = refl
 
-refused-right : (x y : WorkingAnswer) → isTaken y ≡ false → meetAnswers x y ≡ refused 9 0
-refused-right (run a) (run b) e = ap (λ t. answerIf t (meet a b)) (ap (λ t. isOneForm a && t) e ∙ and-comm (isOneForm a) false)
-refused-right (run a) (refused m n) e = refl
+refused-right : (x y : WorkingAnswer Run) → isTaken y ≡ false → meetAnswers x y ≡ refused 9 0
+refused-right (gives a) (gives b) e = ap (λ t. answerIf t (meet a b)) (ap (λ t. isOneForm a && t) e ∙ and-comm (isOneForm a) false)
+refused-right (gives a) (refused m n) e = refl
 refused-right (refused m n) y e = refl
 
 abbrev allFormed : Grouping → Bool
@@ -43,7 +44,7 @@ allFormed g = every isOneForm (leaves g)
 
 -- the run that the definition gives where all are in their one form; elsewhere what no working takes
 record Stands (g : Grouping) : Type 0 where
-  gives : allFormed g ≡ true → worked g ≡ run (met g)
+  gives : allFormed g ≡ true → worked g ≡ gives (met g)
   not-taken : allFormed g ≡ false → isTaken (worked g) ≡ false
 
 of-pair : (g h : Grouping) → Stands g → Stands h → worked (pair g h) ≡ answerIf (allFormed (pair g h)) (met (pair g h))

@@ -2,10 +2,12 @@
 -- is refused just outside them.
 use mathlib.Core.Path.{_≡_, refl, sym, _∙_, ap}
 use mathlib.Core.Logic.{_↔_, _≢_, Iff·trans}
-use mathlib.Core.Bool.{Bool, true, false, not, _&&_, cond, and-eq-true-iff, true≢false}
+use mathlib.Core.Bool.{Bool, true, false, not, _&&_, and-eq-true-iff, true≢false}
 use mathlib.Core.List.{[], _∷_}
 use Prim.Native.Nat.{ℕ, zero, suc, _≤_}
 use borrow.Author.Tests.{not-true}
+use Rattle.reasons.specs.Answer.{WorkingAnswer, gives, refused, RefusedUnless}
+use Rattle.reasons.proofs.Answers.{and-iff, gives-where, refuses-where, refused-unless}
 use Rattle.ints.specs.Within.{Within, isWithin}
 use Rattle.ints.specs.Equal.{isEqual}
 use Rattle.ints.proofs.{ℤ, pos, _-ℤ_, _*ℤ_, _≤ℤ_, _<ℤ_, arith, lin, _&_, facts}
@@ -16,7 +18,7 @@ use Rattle.lists.specs.Keep.{every}
 use Rattle.lists.proofs.Keep.{every-iff}
 use Rattle.runs.specs.Run.{Run, numbers, InRun, OneForm, bound, isFormed, isOneForm}
 use Rattle.runs.specs.Search.{meet, carry}
-use Rattle.runs.specs.Workings.{Equation, CarryLimits, isCoefficient, carryLimits, WorkingAnswer, run, refused, RefusedUnless, meeting, carrying}
+use Rattle.runs.specs.Workings.{Equation, CarryLimits, isCoefficient, carryLimits, meeting, carrying}
 use Rattle.runs.specs.Method.{span}
 use Rattle.ints.specs.Divides.{Congruent}
 use Rattle.runs.proofs.Members.{in-numbers, no-place}
@@ -143,32 +145,27 @@ in-limits-iff e = (to, from)
     )
 
 -- ---- the answers
-pub not-both : {r : Run} {m n : ℕ} → run r ≡ refused m n → ⊥
-not-both {r} {m} {n} e = let z : _≡_ {A = ℕ} 0 1 = cc in omega arith
+pub both-formed-iff : (a b : Run) → (isOneForm a && isOneForm b ≡ true) ↔ (OneForm a × OneForm b)
+both-formed-iff a b = and-iff (one-form-iff a) (one-form-iff b)
 
-pub meeting-gives : {a b : Run} → OneForm a → OneForm b → meeting a b ≡ run (meet a b)
-meeting-gives {a} {b} o o′ = rw (one-form-iff a .1 o, one-form-iff b .1 o′) refl
+pub carriable-iff : (e : Equation) (q : Run) → (carryLimits e && isOneForm q ≡ true) ↔ (CarryLimits e × OneForm q)
+carriable-iff e q = and-iff (in-limits-iff e) (one-form-iff q)
+
+pub meeting-gives : {a b : Run} → OneForm a → OneForm b → meeting a b ≡ gives (meet a b)
+meeting-gives {a} {b} o o′ = gives-where (both-formed-iff a b) (meet a b) (o, o′)
 
 pub meeting-refuses : (a b : Run) → ¬ (OneForm a × OneForm b) → meeting a b ≡ refused 9 0
-meeting-refuses a b h = go (isOneForm a && isOneForm b) refl
-  where
-    go : (t : Bool) → isOneForm a && isOneForm b ≡ t → cond t (run (meet a b)) (refused 9 0) ≡ refused 9 0
-    go true t = let (u, v) = and-eq-true-iff (isOneForm a) (isOneForm b) .0 t in absurd (h (one-form-iff a .0 u, one-form-iff b .0 v))
-    go false t = refl
+meeting-refuses a b = refuses-where (both-formed-iff a b) (meet a b)
 
-pub carrying-gives : {e : Equation} {q : Run} → CarryLimits e → OneForm q → carrying e q ≡ run (carry (e .a) (e .b) (e .c) q)
-carrying-gives {e} {q} k o = rw (in-limits-iff e .1 k, one-form-iff q .1 o) refl
+pub carrying-gives : {e : Equation} {q : Run} → CarryLimits e → OneForm q → carrying e q ≡ gives (carry (e .a) (e .b) (e .c) q)
+carrying-gives {e} {q} k o = gives-where (carriable-iff e q) (carry (e .a) (e .b) (e .c) q) (k, o)
 
 pub carrying-refuses : (e : Equation) (q : Run) → ¬ (CarryLimits e × OneForm q) → carrying e q ≡ refused 9 0
-carrying-refuses e q h = go (carryLimits e && isOneForm q) refl
-  where
-    go : (t : Bool) → carryLimits e && isOneForm q ≡ t → cond t (run (carry (e .a) (e .b) (e .c) q)) (refused 9 0) ≡ refused 9 0
-    go true t = let (u, v) = and-eq-true-iff (carryLimits e) (isOneForm q) .0 t in absurd (h (in-limits-iff e .0 u, one-form-iff q .0 v))
-    go false t = refl
+carrying-refuses e q = refuses-where (carriable-iff e q) (carry (e .a) (e .b) (e .c) q)
 
 -- the same in one: refused exactly when the arguments are not lawful
-pub meeting-unless : {a b : Run} {x : WorkingAnswer} → x ≡ meeting a b → RefusedUnless (OneForm a × OneForm b) x
-meeting-unless {a} {b} {x} e = (λ z p. not-both (sym (meeting-gives (p .0) (p .1)) ∙ sym e ∙ z), λ h. e ∙ meeting-refuses a b h)
+pub meeting-unless : {a b : Run} {x : WorkingAnswer Run} → x ≡ meeting a b → RefusedUnless (OneForm a × OneForm b) x
+meeting-unless {a} {b} = refused-unless (both-formed-iff a b) (meet a b)
 
-pub carrying-unless : {e : Equation} {q : Run} {x : WorkingAnswer} → x ≡ carrying e q → RefusedUnless (CarryLimits e × OneForm q) x
-carrying-unless {e} {q} {x} is = (λ z p. not-both (sym (carrying-gives (p .0) (p .1)) ∙ sym is ∙ z), λ h. is ∙ carrying-refuses e q h)
+pub carrying-unless : {e : Equation} {q : Run} {x : WorkingAnswer Run} → x ≡ carrying e q → RefusedUnless (CarryLimits e × OneForm q) x
+carrying-unless {e} {q} = refused-unless (carriable-iff e q) (carry (e .a) (e .b) (e .c) q)

@@ -2,12 +2,13 @@
 -- proofs/MeetingLaws.antt prove it).
 use mathlib.Core.Path.{_≡_}
 use mathlib.Core.List.{List, []}
+use Rattle.reasons.specs.Answer.{gives, answerIf}
 use Rattle.lists.specs.Members.{_∈_}
 use Rattle.lists.specs.Keep.{every}
 use Rattle.lists.specs.Permutation.{Permutation}
 use Rattle.runs.specs.Run.{Run, OneForm, isOneForm, empty, full}
 use Rattle.runs.specs.Search.{meet, meetAll}
-use Rattle.runs.specs.Workings.{run, answerIf, meeting}
+use Rattle.runs.specs.Workings.{meeting}
 use Rattle.runs.specs.Groupings.{Grouping, pair, leaves, met, meetAnswers, worked}
 
 -- of the definition, for all runs in their one form
@@ -25,7 +26,7 @@ pub record MeetLaws : Type 0 where
 -- of the working, for all arguments: where a run is not in its one form, each of these is reason 9
 pub record MeetingLaws : Type 0 where
   pub commutative : (a b : Run) → meeting a b ≡ meeting b a
-  pub associative : (a b c : Run) → meetAnswers (meeting a b) (run c) ≡ meetAnswers (run a) (meeting b c)
+  pub associative : (a b c : Run) → meetAnswers (meeting a b) (gives c) ≡ meetAnswers (gives a) (meeting b c)
   pub idempotent : (a : Run) → meeting a a ≡ answerIf (isOneForm a) a
   pub full-neutral : (a : Run) → (meeting full a ≡ answerIf (isOneForm a) a) × (meeting a full ≡ answerIf (isOneForm a) a)
   pub empty-absorbs : (a : Run) → (meeting empty a ≡ answerIf (isOneForm a) empty) × (meeting a empty ≡ answerIf (isOneForm a) empty)

@@ -3,11 +3,12 @@ use mathlib.Core.Path.{_≡_, refl}
 use mathlib.Core.Bool.{true, false}
 use mathlib.Core.List.{[], _∷_}
 use lib.IntN.{pos, negsuc}
+use Rattle.reasons.specs.Answer.{gives, refused}
 use Rattle.lists.specs.Keep.{every}
 use Rattle.runs.specs.Run.{Run, numbers, isOneForm, empty}
 use Rattle.runs.specs.Search.{runOf, meet, hasPartner}
 use Rattle.ints.specs.Floor.{floorDiv, floorMod, ceilDiv}
-use Rattle.runs.specs.Workings.{meeting, run, refused}
+use Rattle.runs.specs.Workings.{meeting}
 use Rattle.runs.specs.Groupings.{alone, pair, leaves, met, worked}
 use Rattle.runs.specs.Method.{clip, between, image, placesIn}
 
@@ -49,7 +50,7 @@ formed : (isOneForm three ≡ true) × (isOneForm empty ≡ true) × (isOneForm 
 unfolding every numbers
 formed = (refl, refl, refl)
 
-answered : (meeting three odd ≡ run record { first = pos 1; step = pos 4; many = 2 }) × (meeting three (record { first = pos 5; step = pos 0; many = 2 }) ≡ refused 9 0)
+answered : (meeting three odd ≡ gives record { first = pos 1; step = pos 4; many = 2 }) × (meeting three (record { first = pos 5; step = pos 0; many = 2 }) ≡ refused 9 0)
 unfolding meet every numbers
 answered = (refl, refl)
 
@@ -73,7 +74,7 @@ unfolding leaves met meet
 grouped = (refl, refl, refl)
 
 -- the same by workings; and with a falling run, in either grouping
-sequenced : (worked (pair (pair (alone threes) (alone evens)) (alone tens)) ≡ run common) ×
+sequenced : (worked (pair (pair (alone threes) (alone evens)) (alone tens)) ≡ gives common) ×
     (worked (pair (pair (alone threes) (alone evens)) (alone record { first = pos 5; step = negsuc 0; many = 3 })) ≡ refused 9 0) ×
     (worked (pair (alone threes) (pair (alone evens) (alone record { first = pos 5; step = negsuc 0; many = 3 }))) ≡ refused 9 0)
 unfolding worked meet every numbers

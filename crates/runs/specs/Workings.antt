@@ -1,10 +1,9 @@
 -- Document 01, "Workings": what meeting and carrying answer for all arguments.
-use mathlib.Core.Bool.{Bool, not, _&&_, cond}
-use mathlib.Core.Path.{_≡_}
-use mathlib.Core.Logic.{_↔_, _≢_}
-use Prim.Native.Nat.{ℕ}
+use mathlib.Core.Bool.{Bool, not, _&&_}
+use mathlib.Core.Logic.{_≢_}
 use lib.IntN.{ℤ, pos}
 use Rattle.reasons.specs.Numbers.{numberOf, rowOf}
+use Rattle.reasons.specs.Answer.{WorkingAnswer, gives, refused, answerIf}
 use Rattle.ints.specs.Within.{Within, isWithin}
 use Rattle.ints.specs.Equal.{isEqual}
 use Rattle.runs.specs.Run.{Run, isOneForm}
@@ -13,19 +12,10 @@ pub use Rattle.runs.specs.declared.Equation.{Equation}
 use Rattle.runs.specs.declared.Working.{Working}
 use Rattle.runs.specs.declared.Working.the-variants.{Gives, Refused}
 
--- an answer in document 01's terms: a run, or refused with a reason and a row
-pub data WorkingAnswer : Type 0 where
-  run : Run → WorkingAnswer
-  refused : ℕ → ℕ → WorkingAnswer
-
 -- what each case of the program's enum says
-abbrev pub workingAnswerOf : Working → WorkingAnswer
-workingAnswerOf (Gives r) = run r
+abbrev pub workingAnswerOf : Working → WorkingAnswer Run
+workingAnswerOf (Gives r) = gives r
 workingAnswerOf (Refused r) = refused (numberOf r) (rowOf r)
-
--- reason 9, row 0: exactly when P does not hold
-abbrev pub RefusedUnless : Type 0 → WorkingAnswer → Type 0
-RefusedUnless P x = (x ≡ refused 9 0) ↔ (¬ P)
 
 -- "a and b are 1 to 1,000,000 in size with either sign, c lies within ±2,000,000,000,000,000"
 pub record CarryLimits (e : Equation) : Type 0 where
@@ -42,14 +32,10 @@ isCoefficient x = isWithin 1000000 x && not (isEqual x (pos 0))
 abbrev pub carryLimits : Equation → Bool
 carryLimits e = isCoefficient (e .a) && (isCoefficient (e .b) && isWithin 2000000000000000 (e .c))
 
--- a run where a test passes; otherwise reason 9, row 0
-abbrev pub answerIf : Bool → Run → WorkingAnswer
-answerIf test r = cond test (run r) (refused 9 0)
-
 -- two runs in their one form meet
-abbrev pub meeting : Run → Run → WorkingAnswer
+abbrev pub meeting : Run → Run → WorkingAnswer Run
 meeting a b = answerIf (isOneForm a && isOneForm b) (meet a b)
 
 -- a run of q in its one form is carried by an equation within its limits
-abbrev pub carrying : Equation → Run → WorkingAnswer
+abbrev pub carrying : Equation → Run → WorkingAnswer Run
 carrying e q = answerIf (carryLimits e && isOneForm q) (carry (e .a) (e .b) (e .c) q)

@@ -3,8 +3,9 @@
 //! Read `specs/Lib.antt` for the definitions, then this file, then the modules in their order.
 
 ghost use mathlib.Core.Path.{_≡_};
+ghost use Rattle.reasons.specs.Answer.{RefusedUnless};
 ghost use Rattle.runs.specs.Run.{OneForm};
-ghost use Rattle.runs.specs.Workings.{CarryLimits, workingAnswerOf, RefusedUnless, meeting, carrying};
+ghost use Rattle.runs.specs.Workings.{CarryLimits, workingAnswerOf, meeting, carrying};
 use reasons::Reason;
 
 // a run's one form, meeting and carrying

@@ -4,7 +4,8 @@ use mathlib.Core.Bool.{true, false}
 use borrow.Author.Needs.{needs}
 use mir.Facts.{toZ-ofZ}
 use Rattle.ints.specs.Floor.{floorDiv}
-use Rattle.ints.specs.Division.{DivisionLimits, divisionLimits, quotient}
+use Rattle.reasons.specs.Answer.{gives}
+use Rattle.ints.specs.Division.{DivisionLimits, divisionLimits}
 use Rattle.ints.proofs.Answers.{in-limits-out}
 use Rattle.ints.proofs.Signed.{told₂}
 use Rattle.ints.proofs.divide.Statement.{statement}
@@ -22,7 +23,7 @@ returns c =
     let s = c .before .before .before in
     let inside : divisionLimits (s .args .n) (s .args .d) ≡ true = told₂ divisionLimits (s .fits .n) (s .fits .d) (c .before .before .in-limits .ensures) (c .before .if1 .taken) in
     let is : c .floor-div .result ≡ floorDiv (s .args .n) (s .args .d) = rw (toZ-ofZ (s .fits .n), toZ-ofZ (s .fits .d)) at (c .floor-div .ensures) in
-    rw (inside, toZ-ofZ (record { sfits = c .floor-div .ok })) (ap quotient is)
+    rw (inside, toZ-ofZ (record { sfits = c .floor-div .ok })) (ap gives is)
 
 returns-2 : tie.Need-returns-2
 returns-2 c =

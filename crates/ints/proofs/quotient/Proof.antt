@@ -12,14 +12,16 @@ use Rattle.ints.proofs.Linear.{lin}
 use Rattle.ints.proofs.Signed.{held, signed}
 use Rattle.ints.proofs.Floor.{floor-within}
 use Rattle.ints.specs.Floor.{floorDiv}
-use Rattle.ints.specs.Division.{divisionAnswerOf, division, DivisionLimits, quotient, refused}
+use Rattle.reasons.specs.Answer.{gives, refused}
+use Rattle.reasons.proofs.Answers.{not-both}
+use Rattle.ints.specs.Division.{divisionAnswerOf, division, DivisionLimits}
 use Rattle.ints.proofs.Answers.{gives-floor, IsQuotient, quotient-is}
 use Rattle.ints.proofs.quotient.Statement.{statement}
 use Rattle.ints.proofs.quotient.Tie as tie
 
 -- with the bits of the locals taken away
 module _ (n d : ℤ) (f : SFits w64 n) (g : SFits w64 d) where
-  floor-of : (q : ℤ) → quotient q ≡ division (held n) (held d) → q ≡ floorDiv n d
+  floor-of : (q : ℤ) → gives q ≡ division (held n) (held d) → q ≡ floorDiv n d
   floor-of q e =
       let k : IsQuotient (held n) (held d) q = quotient-is _ _ q e in
       rw (toZ-ofZ f, toZ-ofZ g) at (k .is)
@@ -27,8 +29,7 @@ module _ (n d : ℤ) (f : SFits w64 n) (g : SFits w64 d) where
   not-refused : {X : Type 0} {a b : ℕ} → DivisionLimits n d → refused a b ≡ division (held n) (held d) → X
   not-refused {a} {b} h e =
       let e′ : refused a b ≡ division n d = rw (toZ-ofZ f, toZ-ofZ g) at e in
-      let clash : refused a b ≡ quotient (floorDiv n d) = e′ ∙ gives-floor n d h in
-      absurd (let z : _≡_ {A = ℕ} 0 1 = cc in omega arith)
+      absurd (not-both (sym (gives-floor n d h) ∙ sym e′))
 
   fitting : (q : ℤ) → DivisionLimits n d → q ≡ floorDiv n d → held q ≡ floorDiv n d
   fitting q h e =

@@ -2,14 +2,15 @@
 use mathlib.Core.Path.{_≡_, sym, _∙_, ap}
 use mathlib.Core.Bool.{true≢false}
 use borrow.Author.Needs.{needs}
+use Rattle.reasons.specs.Answer.{WorkingAnswer, gives, refused, RefusedUnless}
 use Rattle.runs.specs.Run.{Run, OneForm}
-use Rattle.runs.specs.Workings.{WorkingAnswer, RefusedUnless, Equation, CarryLimits, run, refused, carrying}
+use Rattle.runs.specs.Workings.{Equation, CarryLimits, carrying}
 use Rattle.runs.proofs.Refusals.{one-form-iff, in-limits-iff, carrying-gives, carrying-refuses, carrying-unless}
 use Rattle.runs.proofs.carrying.Statement.{statement}
 use Rattle.runs.proofs.carrying.Tie as tie
 
 -- both clauses of the contract from the first
-both : (e : Equation) (q : Run) (x : WorkingAnswer) → x ≡ carrying e q → (x ≡ carrying e q) × RefusedUnless (CarryLimits e × OneForm q) x
+both : (e : Equation) (q : Run) (x : WorkingAnswer Run) → x ≡ carrying e q → (x ≡ carrying e q) × RefusedUnless (CarryLimits e × OneForm q) x
 both e q x is = (is, carrying-unless is)
 
 carry-requires : tie.Need-carry-requires
@@ -23,7 +24,7 @@ returns : tie.Need-returns
 returns c =
     let s = c .before .before .before .before .before in
     let (o, lim) = carry-requires (c .before) (c .carry .lifetimes) in
-    both (s .args .e) (s .args .q) (run (c .carry .result)) (ap run (c .carry .ensures) ∙ sym (carrying-gives lim o))
+    both (s .args .e) (s .args .q) (gives (c .carry .result)) (ap gives (c .carry .ensures) ∙ sym (carrying-gives lim o))
 
 returns-2 : tie.Need-returns-2
 returns-2 c =

@@ -2,14 +2,15 @@
 use mathlib.Core.Path.{_≡_, sym, _∙_, ap}
 use mathlib.Core.Bool.{true≢false}
 use borrow.Author.Needs.{needs}
+use Rattle.reasons.specs.Answer.{WorkingAnswer, gives, refused, RefusedUnless}
 use Rattle.runs.specs.Run.{Run, OneForm}
-use Rattle.runs.specs.Workings.{WorkingAnswer, RefusedUnless, run, refused, meeting}
+use Rattle.runs.specs.Workings.{meeting}
 use Rattle.runs.proofs.Refusals.{one-form-iff, meeting-gives, meeting-refuses, meeting-unless}
 use Rattle.runs.proofs.meeting.Statement.{statement}
 use Rattle.runs.proofs.meeting.Tie as tie
 
 -- both clauses of the contract from the first
-both : (a b : Run) (x : WorkingAnswer) → x ≡ meeting a b → (x ≡ meeting a b) × RefusedUnless (OneForm a × OneForm b) x
+both : (a b : Run) (x : WorkingAnswer Run) → x ≡ meeting a b → (x ≡ meeting a b) × RefusedUnless (OneForm a × OneForm b) x
 both a b x e = (e, meeting-unless e)
 
 meet-requires : tie.Need-meet-requires
@@ -23,7 +24,7 @@ returns : tie.Need-returns
 returns c =
     let s = c .before .before .before .before .before in
     let (o, o′) = meet-requires (c .before) (c .meet .lifetimes) in
-    both (s .args .a) (s .args .b) (run (c .meet .result)) (ap run (c .meet .ensures) ∙ sym (meeting-gives o o′))
+    both (s .args .a) (s .args .b) (gives (c .meet .result)) (ap gives (c .meet .ensures) ∙ sym (meeting-gives o o′))
 
 returns-2 : tie.Need-returns-2
 returns-2 c =
