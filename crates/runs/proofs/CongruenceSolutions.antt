@@ -12,8 +12,9 @@ use Rattle.ints.proofs.Floor.{mod-range}
 use Rattle.ints.proofs.Divides.{divides-add, divides-mul, divides-by, floor-exact, divides-iff, mod-congruent, divisor-range}
 use Rattle.ints.proofs.Gcd.{Bezout}
 use Rattle.ints.proofs.Congruence.{solvable, solution, one-class}
-use Rattle.runs.specs.Method.{IsFactor, InReach, Congruence, AllSolutions}
-use Rattle.runs.proofs.Euclid.{gcd-range}
+use Rattle.euclid.specs.Factor.{IsFactor}
+use Rattle.runs.specs.Method.{InReach, Congruence, AllSolutions}
+use Rattle.euclid.proofs.Euclid.{gcd-range}
 
 -- x·y ≡ x′·y′, where x ≡ x′ and y ≡ y′
 congruent-mul : {d : ℤ} (x x′ y y′ : ℤ) → Congruent d x x′ → Congruent d y y′ → Congruent d (x *ℤ y) (x′ *ℤ y′)

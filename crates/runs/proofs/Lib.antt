@@ -12,8 +12,6 @@ pub mod ClassOfRun
 pub mod Intervals
 -- the part of a residue class in an interval as a run (`is-clip`)
 pub mod ClassInInterval
--- the greatest common divisor: the loop of Euclid's algorithm (`Inv`)
-pub mod Euclid
 -- the solutions of a congruence, from the greatest common divisor (`every`), or that there is none (`nothing`)
 pub mod CongruenceSolutions
 -- the period of a congruence's solutions

@@ -10,13 +10,14 @@ use Rattle.ints.specs.Within.{Within}
 use Rattle.ints.specs.Floor.{floorDiv, floorMod}
 use Rattle.ints.proofs.{ℤ, pos, negsuc, negℤ, natAbs, _-ℤ_, _*ℤ_, _≤ℤ_, _<ℤ_, ltZ, arith, lin, lin₀, facts}
 use Rattle.ints.proofs.Order.{nat-nonneg, abs-nonneg}
+use Rattle.euclid.specs.Factor.{IsFactor}
+use Rattle.euclid.proofs.Euclid.{Inv, start, step, done, turned}
 use Rattle.runs.specs.declared.congruence.Solutions.the-variants.{Nothing, Every}
 use Rattle.runs.specs.Run.{Run, OneForm, empty}
 use Rattle.runs.specs.Search.{meet, carry}
 use Rattle.runs.specs.Workings.{Equation, CarryLimits}
 use Rattle.runs.specs.Model.{Factors, remainders, factors, solved, meetModel, carryModel}
-use Rattle.runs.specs.Method.{IsFactor, Carriable, Congruence, InReach, Solves, placesIn, meetBy, placesWithPartner, carryBy, upright}
-use Rattle.runs.proofs.Euclid.{Inv, start, step, done, turned}
+use Rattle.runs.specs.Method.{Carriable, Congruence, InReach, Solves, placesIn, meetBy, placesWithPartner, carryBy, upright}
 use Rattle.runs.proofs.CongruenceSolutions.{nothing, no-rest, every}
 use Rattle.runs.proofs.MeetMethod.{IsMeet, is-meet, met, empty-left, empty-right, places-in-reach}
 use Rattle.runs.proofs.CarryMembers.{IsCarry, is-carry, empty-carried}

@@ -1,11 +1,10 @@
 -- The tests of the one form and of the limits, and what they say; so a working answers a run just within its limits, and
 -- is refused just outside them.
 use mathlib.Core.Path.{_≡_, refl, sym, _∙_, ap}
-use mathlib.Core.Logic.{_↔_, _≢_, Iff·trans}
-use mathlib.Core.Bool.{Bool, true, false, not, _&&_, and-eq-true-iff, true≢false}
+use mathlib.Core.Logic.{_↔_, Iff·trans}
+use mathlib.Core.Bool.{Bool, true, false, not, _&&_, and-eq-true-iff}
 use mathlib.Core.List.{[], _∷_}
 use Prim.Native.Nat.{ℕ, zero, suc, _≤_}
-use borrow.Author.Tests.{not-true}
 use Rattle.reasons.specs.Answer.{WorkingAnswer, gives, refused, RefusedUnless}
 use Rattle.reasons.proofs.Answers.{and-iff, gives-where, refuses-where, refused-unless}
 use Rattle.ints.specs.Within.{Within, isWithin}
@@ -14,11 +13,12 @@ use Rattle.ints.proofs.{ℤ, pos, _-ℤ_, _*ℤ_, _≤ℤ_, _<ℤ_, arith, lin,
 use Rattle.ints.proofs.Order.{le-true}
 use Rattle.ints.proofs.Equal.{equal-true}
 use Rattle.ints.proofs.Within.{within-true}
+use Rattle.euclid.proofs.Coefficient.{coefficient-iff}
 use Rattle.lists.specs.Keep.{every}
 use Rattle.lists.proofs.Keep.{every-iff}
 use Rattle.runs.specs.Run.{Run, numbers, InRun, OneForm, bound, isFormed, isOneForm}
 use Rattle.runs.specs.Search.{meet, carry}
-use Rattle.runs.specs.Workings.{Equation, CarryLimits, isCoefficient, carryLimits, meeting, carrying}
+use Rattle.runs.specs.Workings.{Equation, CarryLimits, carryLimits, meeting, carrying}
 use Rattle.runs.specs.Method.{span}
 use Rattle.ints.specs.Divides.{Congruent}
 use Rattle.runs.proofs.Members.{in-numbers, no-place}
@@ -108,41 +108,11 @@ none-form r z a b = record {
 }
 
 -- ---- the limits of carrying
-coefficient-iff : (x : ℤ) → (isCoefficient x ≡ true) ↔ (Within 1000000 x × (x ≢ pos 0))
-coefficient-iff x = Iff·trans (and-eq-true-iff (isWithin 1000000 x) (not (isEqual x (pos 0)))) (to, from)
-  where
-    to : (isWithin 1000000 x ≡ true) × (not (isEqual x (pos 0)) ≡ true) → Within 1000000 x × (x ≢ pos 0)
-    to (a, b) = (within-true 1000000 x .0 a, λ z. true≢false (sym (equal-true x (pos 0) .1 z) ∙ not-true (isEqual x (pos 0)) b))
-
-    from : Within 1000000 x × (x ≢ pos 0) → (isWithin 1000000 x ≡ true) × (not (isEqual x (pos 0)) ≡ true)
-    from (a, b) = (within-true 1000000 x .1 a, differs (isEqual x (pos 0)) (λ t. b (equal-true x (pos 0) .0 t)))
-      where
-        differs : (t : Bool) → (t ≡ true → ⊥) → not t ≡ true
-        differs true h = absurd (h refl)
-        differs false h = refl
-
 pub in-limits-iff : (e : Equation) → (carryLimits e ≡ true) ↔ CarryLimits e
-in-limits-iff e = (to, from)
-  where
-    split : (carryLimits e ≡ true) ↔ ((isCoefficient (e .a) ≡ true) × (isCoefficient (e .b) && isWithin 2000000000000000 (e .c) ≡ true))
-    split = and-eq-true-iff (isCoefficient (e .a)) (isCoefficient (e .b) && isWithin 2000000000000000 (e .c))
-
-    rest : (isCoefficient (e .b) && isWithin 2000000000000000 (e .c) ≡ true) ↔ ((isCoefficient (e .b) ≡ true) × (isWithin 2000000000000000 (e .c) ≡ true))
-    rest = and-eq-true-iff (isCoefficient (e .b)) (isWithin 2000000000000000 (e .c))
-
-    to : carryLimits e ≡ true → CarryLimits e
-    to t =
-        let (a, bc) = split .0 t in
-        let (b, c) = rest .0 bc in
-        let (la, na) = coefficient-iff (e .a) .0 a in
-        let (lb, nb) = coefficient-iff (e .b) .0 b in
-        record { left = la; left-not-zero = na; right = lb; right-not-zero = nb; constant = within-true 2000000000000000 (e .c) .0 c }
-
-    from : CarryLimits e → carryLimits e ≡ true
-    from k = split .1 (
-      coefficient-iff (e .a) .1 (k .left, k .left-not-zero),
-      rest .1 (coefficient-iff (e .b) .1 (k .right, k .right-not-zero), within-true 2000000000000000 (e .c) .1 (k .constant)),
-    )
+in-limits-iff e = Iff·trans (and-iff (coefficient-iff (e .a)) (and-iff (coefficient-iff (e .b)) (within-true 2000000000000000 (e .c)))) (
+  λ p. record { left = p .0 .size; left-not-zero = p .0 .not-zero; right = p .1 .0 .size; right-not-zero = p .1 .0 .not-zero; constant = p .1 .1 },
+  λ k. (record { size = k .left; not-zero = k .left-not-zero }, (record { size = k .right; not-zero = k .right-not-zero }, k .constant)),
+)
 
 -- ---- the answers
 pub both-formed-iff : (a b : Run) → (isOneForm a && isOneForm b ≡ true) ↔ (OneForm a × OneForm b)

@@ -8,7 +8,7 @@ use lib.IntN.{ℤ, pos, negℤ, natAbs, _+ℤ_, _-ℤ_, _*ℤ_}
 use lib.Signed.{_≤ℤ_, _<ℤ_, ltZ}
 use Rattle.ints.specs.Within.{Within}
 use Rattle.ints.specs.Floor.{floorDiv, floorMod, ceilDiv}
-use Rattle.ints.specs.Divides.{Congruent, IsGcd}
+use Rattle.ints.specs.Divides.{Congruent}
 use Rattle.ints.specs.Division.{limit}
 use Rattle.runs.specs.Run.{Run, OneForm, empty, full, bound}
 use Rattle.runs.specs.Workings.{Equation, CarryLimits}
@@ -17,12 +17,6 @@ pub use Rattle.runs.specs.declared.class.Interval.{Interval}
 pub use Rattle.runs.specs.declared.congruence.Congruence.{Congruence}
 use Rattle.runs.specs.declared.congruence.Solutions.{Solutions}
 use Rattle.runs.specs.declared.congruence.Solutions.the-variants.{Nothing, Every}
-
--- ---- the greatest common divisor of a and b is g, and a·x is g modulo b
-pub record IsFactor (a b g x : ℤ) : Type 0 where
-  pub gcd : IsGcd a b g
-  pub cofactor : Congruent b (a *ℤ x) g
-  pub small : Within (natAbs b) x
 
 -- ---- u·i ≡ v (mod d)
 pub record InReach (s : Congruence) : Type 0 where

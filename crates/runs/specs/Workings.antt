@@ -1,11 +1,11 @@
 -- Document 01, "Workings": what meeting and carrying answer for all arguments.
-use mathlib.Core.Bool.{Bool, not, _&&_}
+use mathlib.Core.Bool.{Bool, _&&_}
 use mathlib.Core.Logic.{_≢_}
-use lib.IntN.{ℤ, pos}
+use lib.IntN.{pos}
 use Rattle.reasons.specs.Numbers.{numberOf, rowOf}
 use Rattle.reasons.specs.Answer.{WorkingAnswer, gives, refused, answerIf}
 use Rattle.ints.specs.Within.{Within, isWithin}
-use Rattle.ints.specs.Equal.{isEqual}
+use Rattle.euclid.specs.Coefficient.{isCoefficient}
 use Rattle.runs.specs.Run.{Run, isOneForm}
 use Rattle.runs.specs.Search.{meet, carry}
 pub use Rattle.runs.specs.declared.Equation.{Equation}
@@ -26,9 +26,6 @@ pub record CarryLimits (e : Equation) : Type 0 where
   pub constant : Within 2000000000000000 (e .c)
 
 -- the same as a test (proofs/Refusals.antt: the two agree)
-abbrev pub isCoefficient : ℤ → Bool
-isCoefficient x = isWithin 1000000 x && not (isEqual x (pos 0))
-
 abbrev pub carryLimits : Equation → Bool
 carryLimits e = isCoefficient (e .a) && (isCoefficient (e .b) && isWithin 2000000000000000 (e .c))
 

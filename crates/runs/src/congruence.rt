@@ -1,9 +1,10 @@
 //! The congruence u·i ≡ v (mod d).
 
 ghost use Rattle.ints.specs.Divides.{_∣ℤ_};
-ghost use Rattle.runs.specs.Method.{IsFactor, InReach, AllSolutions, Solves};
+ghost use Rattle.euclid.specs.Factor.{IsFactor};
+ghost use Rattle.runs.specs.Method.{InReach, AllSolutions, Solves};
 use crate::class::Class;
-use crate::factor::Factor;
+use euclid::Factor;
 
 /// u·i ≡ v (mod d), for an unknown i.
 pub struct Congruence {

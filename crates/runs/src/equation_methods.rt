@@ -5,7 +5,7 @@ ghost use Prim.Native.Nat.{_≤_};
 ghost use lib.Signed.{_≤ℤ_};
 ghost use Rattle.ints.specs.Within.{Within};
 ghost use Rattle.runs.specs.Run.{OneForm, bound};
-ghost use Rattle.runs.specs.Workings.{CarryLimits, isCoefficient, carryLimits};
+ghost use Rattle.runs.specs.Workings.{CarryLimits, carryLimits};
 ghost use Rattle.runs.specs.Method.{upright, Carriable, partnerValue, placesWithPartner, AllSolutions, numbersAt, span, partners, stepOf, between, image, imageInRange, carryBy};
 ghost use Rattle.runs.specs.declared.congruence.Solutions.the-variants.{Every};
 use crate::Equation;
@@ -19,8 +19,8 @@ impl Equation {
     pub fn in_limits(self) -> bool
         ensures { λ r. ⌜ r ≡ carryLimits self ⌝ }
     {
-        if is_coefficient(self.a) {
-            if is_coefficient(self.b) {
+        if euclid::is_coefficient(self.a) {
+            if euclid::is_coefficient(self.b) {
                 return ints::is_within(2000000000000000, self.c);
             }
         }
@@ -139,13 +139,4 @@ impl Equation {
             high: ints::quotient(self.partner_value(to), self.a),
         }
     }
-}
-
-fn is_coefficient(x: i64) -> bool
-    ensures { λ r. ⌜ r ≡ isCoefficient x ⌝ }
-{
-    if ints::is_within(1000000, x) {
-        return x != 0;
-    }
-    false
 }

@@ -16,8 +16,6 @@ mod equation_methods;
 mod class;
 // u·i ≡ v (mod d)
 mod congruence;
-// the greatest common divisor, with a cofactor
-mod factor;
 
 /// An arithmetic progression, document 01's run: `many` numbers, from `first` on by `step`. Its one form: empty is 0, 0, 0;
 /// one number has step 0; otherwise the step is at least 1; and all its numbers lie within ±1,000,000,000.

@@ -7,7 +7,7 @@ use mir.Val.{SFits}
 use mir.Facts.{toZ-ofZ}
 use Rattle.ints.specs.Within.{isWithin}
 use Rattle.ints.proofs.Signed.{told}
-use Rattle.runs.specs.Workings.{isCoefficient}
+use Rattle.euclid.specs.Coefficient.{isCoefficient}
 use Rattle.runs.proofs.Equation.in_limits.Statement.{statement}
 use Rattle.runs.proofs.Equation.in_limits.Tie as tie
 

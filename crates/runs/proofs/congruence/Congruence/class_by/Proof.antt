@@ -10,9 +10,9 @@ use Rattle.ints.specs.Division.{DivisionLimits, limit}
 use Rattle.ints.proofs.{ℤ, pos, _*ℤ_, _≤ℤ_, _<ℤ_, [], _∷_, arith, lin, _&_, facts, within-mul}
 use Rattle.ints.proofs.Signed.{held}
 use Rattle.ints.proofs.Floor.{floor-within, mod-range}
-use Rattle.runs.specs.Method.{IsFactor}
+use Rattle.euclid.specs.Factor.{IsFactor}
 use Rattle.ints.proofs.Answers.{fits-limit, asked, answered}
-use Rattle.runs.proofs.Euclid.{cofactor-range}
+use Rattle.euclid.proofs.Euclid.{cofactor-range}
 use Rattle.runs.proofs.CongruenceSolutions.{limits, period-range, every-by, limits-value, limits-modulus}
 use Rattle.runs.proofs.congruence.Congruence.class_by.Statement.{statement}
 use Rattle.runs.proofs.congruence.Congruence.class_by.Tie as tie

@@ -9,7 +9,7 @@ use Rattle.ints.specs.Floor.{floorMod}
 use Rattle.ints.specs.Division.{DivisionLimits}
 use Rattle.ints.proofs.{ℤ, pos, ltZ, _≤ℤ_, _<ℤ_, [], _∷_, arith, lin, _&_, signed}
 use Rattle.ints.proofs.Signed.{held}
-use Rattle.runs.specs.Method.{IsFactor}
+use Rattle.euclid.specs.Factor.{IsFactor}
 use Rattle.ints.proofs.Answers.{asked, answered}
 use Rattle.runs.proofs.CongruenceSolutions.{limits-value, nothing, no-rest}
 use Rattle.runs.proofs.congruence.Congruence.solve.Statement.{statement}
@@ -18,7 +18,7 @@ use Rattle.runs.proofs.congruence.Congruence.solve.Reads as reads
 use Rattle.runs.proofs.congruence.Congruence.solve.Lts as lts
 use Rattle.ints.proofs.remainder.Reads as remainder-reads
 use Rattle.runs.proofs.congruence.Congruence.class_by.Reads as class-by-reads
-use Rattle.runs.proofs.factor.Factor.of.Reads as of-reads
+use Rattle.euclid.proofs.Factor.of.Reads as of-reads
 
 -- what the functions that are called ask, and tell
 abbrev claims : lts.Claims

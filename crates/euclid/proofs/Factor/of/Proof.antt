@@ -3,13 +3,13 @@ use mir.Syntax.{w64}
 use mir.Val.{SFits}
 use mir.Facts.{toZ-ofZ}
 use Rattle.ints.proofs.{ℤ, pos, _-ℤ_, _≤ℤ_, _<ℤ_, [], _∷_, arith, lin, _&_, signed}
-use Rattle.runs.specs.Method.{IsFactor}
-use Rattle.runs.proofs.Euclid.{turned, gcd-range, cofactor-range}
-use Rattle.runs.proofs.factor.Factor.of.Statement.{statement}
-use Rattle.runs.proofs.factor.Factor.of.Tie as tie
-use Rattle.runs.proofs.factor.Factor.of.Reads as reads
-use Rattle.runs.proofs.factor.Factor.of.Lts as lts
-use Rattle.runs.proofs.factor.Factor.of_size.Reads as of-size-reads
+use Rattle.euclid.specs.Factor.{IsFactor}
+use Rattle.euclid.proofs.Euclid.{turned, gcd-range, cofactor-range}
+use Rattle.euclid.proofs.Factor.of.Statement.{statement}
+use Rattle.euclid.proofs.Factor.of.Tie as tie
+use Rattle.euclid.proofs.Factor.of.Reads as reads
+use Rattle.euclid.proofs.Factor.of.Lts as lts
+use Rattle.euclid.proofs.Factor.of_size.Reads as of-size-reads
 
 sub-of-size : tie.Need-sub-of-size
 sub-of-size c =

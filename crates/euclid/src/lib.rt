@@ -1,9 +1,13 @@
 //! The greatest common divisor of two numbers, by remainders of their sizes, with the cofactor of the first.
+//!
+//! Read `specs/Lib.antt` for the definitions, then this file.
 
+ghost use mathlib.Core.Path.{_≡_};
 ghost use lib.IntN.{pos};
 ghost use lib.Signed.{_<ℤ_, _≤ℤ_};
 ghost use Rattle.ints.specs.Within.{Within};
-ghost use Rattle.runs.specs.Method.{IsFactor};
+ghost use Rattle.euclid.specs.Coefficient.{isCoefficient};
+ghost use Rattle.euclid.specs.Factor.{IsFactor};
 
 /// a·cofactor is the greatest common divisor of a and b, modulo b.
 pub struct Factor {
@@ -12,7 +16,8 @@ pub struct Factor {
 }
 
 impl Factor {
-    pub(crate) fn of(a: i64, b: i64) -> Factor
+    /// For arguments that are known to be within these limits; with them no step leaves 64 bits.
+    pub fn of(a: i64, b: i64) -> Factor
         requires { ⌜ Within 1000000000000000000 a ⌝ }
         requires { ⌜ pos 0 <ℤ b ⌝ }
         requires { ⌜ b ≤ℤ pos 2000000000 ⌝ }
@@ -55,4 +60,14 @@ impl Factor {
             cofactor: s0,
         }
     }
+}
+
+/// Is x of a coefficient's size: 1 to 1,000,000, with either sign?
+pub fn is_coefficient(x: i64) -> bool
+    ensures { λ r. ⌜ r ≡ isCoefficient x ⌝ }
+{
+    if ints::is_within(1000000, x) {
+        return x != 0;
+    }
+    false
 }

@@ -1,12 +1,12 @@
--- `form::is_coefficient` meets its contract.
+-- `euclid::is_coefficient` meets its contract.
 use mathlib.Core.Path.{_≡_, ap}
 use mathlib.Core.Bool.{true, false, not}
 use borrow.Author.Needs.{needs}
 use mir.Syntax.{w64}
 use Rattle.ints.specs.Within.{isWithin}
 use Rattle.ints.proofs.Signed.{bits-zero, told}
-use Rattle.runs.proofs.equation_methods.is_coefficient.Statement.{statement}
-use Rattle.runs.proofs.equation_methods.is_coefficient.Tie as tie
+use Rattle.euclid.proofs.is_coefficient.Statement.{statement}
+use Rattle.euclid.proofs.is_coefficient.Tie as tie
 
 returns : tie.Need-returns
 returns c =

@@ -10,7 +10,7 @@ use Rattle.ints.proofs.Order.{nat-nonneg, abs-nonneg}
 use Rattle.ints.proofs.Products.{mul-nonneg}
 use Rattle.ints.proofs.Divides.{divides-add, divides-mul, divides-by, divisor-range}
 use Rattle.ints.proofs.Truncated.{quot-rem, rem-range, quot-nonneg, rem-nonneg, within-rem}
-use Rattle.runs.specs.Method.{IsFactor}
+use Rattle.euclid.specs.Factor.{IsFactor}
 
 -- s0 and s1 have opposite signs, so by `spread` the next one is no larger than b either
 pub record Inv (a b r0 r1 s0 s1 : ℤ) : Type 0 where

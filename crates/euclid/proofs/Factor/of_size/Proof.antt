@@ -11,12 +11,12 @@ use Rattle.ints.proofs.{ℤ, pos, natAbs, _-ℤ_, _*ℤ_, _≤ℤ_, _<ℤ_, ltZ
 use Rattle.ints.proofs.Signed.{held}
 use Rattle.ints.proofs.Order.{lt-true, lt-false, abs-nonneg}
 use Rattle.ints.proofs.Truncated.{within-quot, within-rem}
-use Rattle.runs.specs.Method.{IsFactor}
-use Rattle.runs.proofs.Euclid.{Inv, start, step, done, r2-less, product-range, s2-range}
-use Rattle.runs.proofs.factor.Factor.of_size.Statement.{statement}
-use Rattle.runs.proofs.factor.Factor.of_size.Tie as tie
-use Rattle.runs.proofs.factor.Factor.of_size.Reads as reads
-use Rattle.runs.proofs.factor.Factor.of_size.Lts as lts
+use Rattle.euclid.specs.Factor.{IsFactor}
+use Rattle.euclid.proofs.Euclid.{Inv, start, step, done, r2-less, product-range, s2-range}
+use Rattle.euclid.proofs.Factor.of_size.Statement.{statement}
+use Rattle.euclid.proofs.Factor.of_size.Tie as tie
+use Rattle.euclid.proofs.Factor.of_size.Reads as reads
+use Rattle.euclid.proofs.Factor.of_size.Lts as lts
 
 abbrev Inv-loop : tie.InvT-loop
 Inv-loop a b r0₀ r1₀ s0₀ s1₀ r0 r1 s0 s1 = Inv (toZ w64 a) (toZ w64 b) (toZ w64 r0) (toZ w64 r1) (toZ w64 s0) (toZ w64 s1)
