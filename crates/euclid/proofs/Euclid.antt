@@ -159,6 +159,15 @@ module _ {a b r0 r1 s0 s1 : ℤ} (i : Inv a b r0 r1 s0 s1) where
           let size : b ≡ pos (natAbs b) = abs-nonneg b (lin (b ∷ []) above (search facts depth 20) (omega arith)) in
           lin (b ∷ s0 ∷ pos (natAbs b) ∷ []) (size & within s0 (i .sign0) (i .small0)) (search facts depth 20) (omega arith)
 
+-- a turn that leaves 1: the next would leave 0, and find that 1
+module _ {a b r0 r1 s0 s1 : ℤ} (i : Inv a b r0 r1 s0 s1) (some : pos 0 <ℤ r1) where
+  pub done-at-one : pos 0 <ℤ b → remZ r0 r1 ≡ pos 1 → IsFactor a b (remZ r0 r1) (s0 -ℤ quotZ r0 r1 *ℤ s1)
+  done-at-one above one =
+      let more : pos 0 <ℤ remZ r0 r1 = lin (remZ r0 r1 ∷ []) one (search facts depth 20) (omega arith) in
+      let none : remZ r1 (remZ r0 r1) ≤ℤ pos 0 =
+      lin (remZ r0 r1 ∷ remZ r1 (remZ r0 r1) ∷ []) (one & rem-range r1 (remZ r0 r1) more .1) (search facts depth 20) (omega arith) in
+      done (step (step i some) more) above none
+
 -- ---- a negative number: turn its sign, and that of the cofactor
 pub turned : {a b g x : ℤ} → IsFactor (pos 0 -ℤ a) b g x → IsFactor a b g (pos 0 -ℤ x)
 turned {a} {b} {g} {x} f = record {

@@ -52,7 +52,7 @@ pub mod Truncated
 -- divisibility: `gauss`; an exact quotient (`floor-exact`, `divides-iff`); each class has one member from 0 to d − 1, the
 -- remainder (`mod-congruent`, `mod-least`)
 pub mod Divides
--- the greatest common divisor (`gcd-is`), with Bézout's identity (`bezout`)
+-- the greatest common divisor (`gcd-is`, `gcd-only`), with Bézout's identity (`bezout`)
 pub mod Gcd
 -- u·x ≡ v (mod d): no solution, or one class modulo d / gcd(u, d) (`solutions`, `class`)
 pub mod Congruence

@@ -30,6 +30,10 @@ pub abs-neg : (n : ℕ) → natAbs (negℤ (pos n)) ≡ n
 abs-neg zero = refl
 abs-neg (suc n) = refl
 
+pub abs-opposite : (x : ℤ) → natAbs (negℤ x) ≡ natAbs x
+abs-opposite (pos n) = abs-neg n
+abs-opposite (negsuc n) = refl
+
 abs-mul : (x y : ℤ) → natAbs (x *ℤ y) ≡ natAbs x * natAbs y
 abs-mul (pos a) (pos b) = refl
 abs-mul (pos a) (negsuc b) = abs-neg (a * suc b)

@@ -1,5 +1,5 @@
 -- The machine's division, rounded towards zero (the kit's quotZ and remZ), and the step from it to division rounded down.
-use mathlib.Core.Path.{_≡_, ap}
+use mathlib.Core.Path.{_≡_, refl, ap}
 use mathlib.Core.List.{List, [], _∷_}
 use Prim.Native.Nat.{ℕ, zero, suc, _/_, _%_, _<_}
 use native.Mathlib.Nat.{div-add-mod, mod-lt, zero-lt-suc, div-le-self, mod-le, le-trans}
@@ -79,9 +79,12 @@ within-quot {n = pos a} (negsuc b) h = record { size = rw (abs-neg (a / suc b)) 
 within-quot {n = negsuc a} (pos b) h = record { size = rw (abs-neg (suc a / b)) (le-trans (div-le-self (suc a) b) (h .size)) }
 within-quot {n = negsuc a} (negsuc b) h = record { size = le-trans (div-le-self (suc a) (suc b)) (h .size) }
 
+pub abs-rem : (n d : ℤ) → natAbs (remZ n d) ≡ natAbs n % natAbs d
+abs-rem (pos n) d = refl
+abs-rem (negsuc n) d = abs-neg (suc n % natAbs d)
+
 pub within-rem : {A : ℕ} {n : ℤ} (d : ℤ) → Within A n → Within A (remZ n d)
-within-rem {n = pos a} d h = record { size = le-trans (mod-le a (natAbs d)) (h .size) }
-within-rem {n = negsuc a} d h = record { size = rw (abs-neg (suc a % natAbs d)) (le-trans (mod-le (suc a) (natAbs d)) (h .size)) }
+within-rem {n} d h = record { size = rw (abs-rem n d) (le-trans (mod-le (natAbs n) (natAbs d)) (h .size)) }
 
 -- ---- of numbers that are not negative
 pub quot-nonneg : (n d : ℤ) → pos 0 ≤ℤ n → pos 0 ≤ℤ d → pos 0 ≤ℤ quotZ n d

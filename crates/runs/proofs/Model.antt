@@ -16,7 +16,7 @@ use Rattle.runs.specs.declared.congruence.Solutions.the-variants.{Nothin
 use Rattle.runs.specs.Run.{Run, OneForm, empty}
 use Rattle.runs.specs.Search.{meet, carry}
 use Rattle.runs.specs.Workings.{Equation, CarryLimits}
-use Rattle.runs.specs.Model.{Factors, remainders, factors, solved, meetModel, carryModel}
+use Rattle.runs.specs.Model.{Factors, extended, factors, solved, meetModel, carryModel}
 use Rattle.runs.specs.Method.{Carriable, Congruence, InReach, Solves, placesIn, meetBy, placesWithPartner, carryBy, upright}
 use Rattle.runs.proofs.CongruenceSolutions.{nothing, no-rest, every}
 use Rattle.runs.proofs.MeetMethod.{IsMeet, is-meet, met, empty-left, empty-right, places-in-reach}
@@ -25,13 +25,13 @@ use Rattle.runs.proofs.CarryMethod.{carried, places-reach, upright-carr
 
 -- ---- the greatest common divisor with a cofactor
 module _ {a b : ℤ} (above : pos 0 <ℤ b) where
-  remainders-are : (turns r0 r1 : ℕ) (s0 s1 : ℤ) → r1 ≤ turns → Inv a b (pos r0) (pos r1) s0 s1 →
-      IsFactor a b (remainders turns r0 r1 s0 s1 .gcd) (remainders turns r0 r1 s0 s1 .cofactor)
-  unfolding remainders
-  remainders-are zero r0 r1 s0 s1 h i = done i above (lin (pos r1 ∷ []) h (search facts depth 20) (omega arith))
-  remainders-are (suc turns) r0 zero s0 s1 h i = done i above (nat-nonneg 0)
-  remainders-are (suc turns) r0 (suc r1) s0 s1 h i =
-      remainders-are turns (suc r1) (r0 % suc r1) s1 (s0 -ℤ pos (r0 / suc r1) *ℤ s1) (omega (arith, mod-lt r0 (zero-lt-suc r1)))
+  extended-is : (turns r0 r1 : ℕ) (s0 s1 : ℤ) → r1 ≤ turns → Inv a b (pos r0) (pos r1) s0 s1 →
+      IsFactor a b (extended turns r0 r1 s0 s1 .gcd) (extended turns r0 r1 s0 s1 .cofactor)
+  unfolding extended
+  extended-is zero r0 r1 s0 s1 h i = done i above (lin (pos r1 ∷ []) h (search facts depth 20) (omega arith))
+  extended-is (suc turns) r0 zero s0 s1 h i = done i above (nat-nonneg 0)
+  extended-is (suc turns) r0 (suc r1) s0 s1 h i =
+      extended-is turns (suc r1) (r0 % suc r1) s1 (s0 -ℤ pos (r0 / suc r1) *ℤ s1) (omega (arith, mod-lt r0 (zero-lt-suc r1)))
       (step i (lin (pos (suc r1) ∷ []) (zero-lt-suc r1) (search facts depth 20) (omega arith)))
 
 opposite : (x : ℤ) → pos 0 -ℤ x ≡ negℤ x
@@ -39,12 +39,12 @@ opposite x = lin₀ (x ∷ []) (search facts depth 20) (omega arith)
 
 factors-are : (a : ℤ) (b : ℕ) → Within 1000000000000000000 a → pos 0 <ℤ pos b → pos b ≤ℤ pos 2000000000 → IsFactor a (pos b) (factors a b .gcd) (factors a b .cofactor)
 unfolding factors
-factors-are (pos a) b w above most = remainders-are above b a b (pos 1) (pos 0) (omega arith) (start (pos a) (pos b) (nat-nonneg a) w above most)
+factors-are (pos a) b w above most = extended-is above b a b (pos 1) (pos 0) (omega arith) (start (pos a) (pos b) (nat-nonneg a) w above most)
 factors-are (negsuc a) b w above most =
     let size : Within 1000000000000000000 (pos (suc a)) = record { size = w .size } in
-    let f : IsFactor (pos (suc a)) (pos b) (remainders b (suc a) b (pos 1) (pos 0) .gcd) (remainders b (suc a) b (pos 1) (pos 0) .cofactor) =
-    remainders-are above b (suc a) b (pos 1) (pos 0) (omega arith) (start (pos (suc a)) (pos b) (nat-nonneg (suc a)) size above most) in
-    turned (subst (λ n. IsFactor n (pos b) (remainders b (suc a) b (pos 1) (pos 0) .gcd) (remainders b (suc a) b (pos 1) (pos 0) .cofactor)) (sym (opposite (negsuc a))) f)
+    let f : IsFactor (pos (suc a)) (pos b) (extended b (suc a) b (pos 1) (pos 0) .gcd) (extended b (suc a) b (pos 1) (pos 0) .cofactor) =
+    extended-is above b (suc a) b (pos 1) (pos 0) (omega arith) (start (pos (suc a)) (pos b) (nat-nonneg (suc a)) size above most) in
+    turned (subst (λ n. IsFactor n (pos b) (extended b (suc a) b (pos 1) (pos 0) .gcd) (extended b (suc a) b (pos 1) (pos 0) .cofactor)) (sym (opposite (negsuc a))) f)
 
 -- ---- u·i ≡ v (mod d)
 solved-is : (s : Congruence) → InReach s → Solves s (solved s)

@@ -10,7 +10,7 @@ pub mod Workings
 pub mod Groupings
 -- the laws of meeting, as statements
 pub mod MeetLaws
--- the method: residue classes, a congruence, the greatest common divisor (what inner functions promise)
+-- the method: residue classes, intervals, a congruence (what inner functions promise)
 pub mod Method
 -- meeting and carrying as functions that compute (nothing here has to be believed)
 pub mod Model

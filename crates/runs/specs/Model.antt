@@ -13,22 +13,22 @@ use Rattle.runs.specs.Run.{Run, empty}
 use Rattle.runs.specs.Workings.{Equation}
 use Rattle.runs.specs.Method.{Congruence, placesIn, meetBy, placesWithPartner, carryBy, upright}
 
--- ---- the greatest common divisor with a cofactor
+-- ---- the greatest common divisor with a cofactor: the extended Euclidean algorithm, down to 0
 pub record Factors : Type 0 where
   pub gcd : ℤ
   pub cofactor : ℤ
 
--- the loop; r1 turns are enough
-unfoldable pub remainders : ℕ → ℕ → ℕ → ℤ → ℤ → Factors
-remainders zero r0 r1 s0 s1 = record { gcd = pos r0; cofactor = s0 }
-remainders (suc turns) r0 zero s0 s1 = record { gcd = pos r0; cofactor = s0 }
-remainders (suc turns) r0 (suc r1) s0 s1 = remainders turns (suc r1) (r0 % suc r1) s1 (s0 -ℤ pos (r0 / suc r1) *ℤ s1)
+-- r1 turns are enough
+unfoldable pub extended : ℕ → ℕ → ℕ → ℤ → ℤ → Factors
+extended zero r0 r1 s0 s1 = record { gcd = pos r0; cofactor = s0 }
+extended (suc turns) r0 zero s0 s1 = record { gcd = pos r0; cofactor = s0 }
+extended (suc turns) r0 (suc r1) s0 s1 = extended turns (suc r1) (r0 % suc r1) s1 (s0 -ℤ pos (r0 / suc r1) *ℤ s1)
 
 -- of either sign
 unfoldable pub factors : ℤ → ℕ → Factors
-unfolding remainders
-factors (pos a) b = remainders b a b (pos 1) (pos 0)
-factors (negsuc a) b = let f = remainders b (suc a) b (pos 1) (pos 0) in record { gcd = f .gcd; cofactor = pos 0 -ℤ f .cofactor }
+unfolding extended
+factors (pos a) b = extended b a b (pos 1) (pos 0)
+factors (negsuc a) b = let f = extended b (suc a) b (pos 1) (pos 0) in record { gcd = f .gcd; cofactor = pos 0 -ℤ f .cofactor }
 
 -- ---- u·i ≡ v (mod d)
 unfoldable pub solved : Congruence → Solutions

@@ -1,8 +1,11 @@
 -- `Factor::of` meets its contract: for a negative a, the sign of the cofactor is turned.
+use mathlib.Core.Path.{_≡_, _∙_, ap}
 use mir.Syntax.{w64}
 use mir.Val.{SFits}
 use mir.Facts.{toZ-ofZ}
-use Rattle.ints.proofs.{ℤ, pos, _-ℤ_, _≤ℤ_, _<ℤ_, [], _∷_, arith, lin, _&_, signed}
+use Rattle.ints.proofs.{ℤ, pos, negℤ, natAbs, _-ℤ_, _≤ℤ_, _<ℤ_, [], _∷_, arith, lin, lin₀, _&_, facts, signed}
+use Rattle.ints.proofs.Products.{abs-opposite}
+use Rattle.euclid.specs.Remainders.{earlyDivisions}
 use Rattle.euclid.specs.Factor.{IsFactor}
 use Rattle.euclid.proofs.Euclid.{turned, gcd-range, cofactor-range}
 use Rattle.euclid.proofs.Factor.of.Statement.{statement}
@@ -21,6 +24,9 @@ of-size-requires c κs =
     let s = c .before in
     lin (s .args .a ∷ s .args .b ∷ []) (s .pre & c .if1 .taken) (search (signed, s .fits .a, s .fits .b, sub-of-size c) depth 20) (omega arith)
 
+same-size : (x : ℤ) → natAbs (pos 0 -ℤ x) ≡ natAbs x
+same-size x = let e : pos 0 -ℤ x ≡ negℤ x = lin₀ (x ∷ []) (search facts depth 20) (omega arith) in ap natAbs e ∙ abs-opposite x
+
 -- the factor of −a, with the bits of the locals taken away
 module _ (c : lts.After-of-size (of-size-reads.Asked, of-size-reads.Learnt) reads.Pre reads.Post) where
   abbrev g : ℤ
@@ -38,11 +44,17 @@ module _ (c : lts.After-of-size (of-size-reads.Asked, of-size-reads.Learnt) read
   most : b ≤ℤ pos 2000000000
   most = c .before .before .pre .1 .1
 
-  factor : IsFactor (pos 0 -ℤ c .before .before .args .a) b g x
-  factor =
+  told : IsFactor (pos 0 -ℤ c .before .before .args .a) b g x × (c .of-size .result .divisions ≡ earlyDivisions (natAbs (pos 0 -ℤ c .before .before .args .a)) (natAbs b))
+  told =
       let s = c .before .before in
       let fits : SFits w64 (pos 0 -ℤ s .args .a) = lin (s .args .a ∷ []) (s .pre .0) (search signed depth 20) (omega arith) in
       rw (toZ-ofZ (s .fits .a), toZ-ofZ (s .fits .b), toZ-ofZ fits) at (c .of-size .ensures)
+
+  factor : IsFactor (pos 0 -ℤ c .before .before .args .a) b g x
+  factor = told .0
+
+  count : c .of-size .result .divisions ≡ earlyDivisions (natAbs (c .before .before .args .a)) (natAbs b)
+  count = told .1 ∙ ap (λ n. earlyDivisions n (natAbs b)) (same-size (c .before .before .args .a))
 
   fits-g : SFits w64 g
   fits-g = lin (g ∷ b ∷ []) (gcd-range factor above & most) (search signed depth 20) (omega arith)
@@ -64,7 +76,7 @@ of-size-requires-2 c κs =
 returns : tie.Need-returns
 returns c =
     let s = c .before .before .before in
-    rw (toZ-ofZ (fits-g s), toZ-ofZ (fits-x s), toZ-ofZ (fits-turned s)) (turned (factor s))
+    rw (toZ-ofZ (fits-g s), toZ-ofZ (fits-x s), toZ-ofZ (fits-turned s)) (turned (factor s), count s)
 
 returns-2 : tie.Need-returns-2
 returns-2 c =

@@ -42,7 +42,7 @@ module _ (c : lts.After-of claims reads.Pre reads.Post) where
       let reach = c .before .before .before .pre in
       let fits-u : SFits w64 u = lin (u ∷ []) (reach .factor) (search signed depth 20) (omega arith) in
       let fits-d : SFits w64 d = lin (d ∷ []) (reach .above & reach .modulus) (search signed depth 20) (omega arith) in
-      rw (toZ-ofZ fits-u, toZ-ofZ fits-d) at (c .of .ensures)
+      rw (toZ-ofZ fits-u, toZ-ofZ fits-d) at (c .of .ensures .0)
 
   limits-v : DivisionLimits v g
   limits-v = limits-value (c .before .before .before .pre) factor
