@@ -11,3 +11,5 @@ pub mod ArraysAgree
 -- what the families of a job say of the arrays: the first component without a solution (`found`, `full`), and what is written
 -- (`objective-best`, `area-best`)
 pub mod StateOfJob
+-- two answers that meet the contract of `plan` for one call are equal: `determined`
+pub mod Determined

@@ -1,0 +1,44 @@
+-- The contract of `plan` determines its answer: any two answers that meet it for one call have one outcome and leave the same bytes in
+-- the area (`determined`). So where the planner is changed and its contract proved again, every outcome and every byte written stays.
+use mathlib.Core.Path.{_≡_, refl, sym, _∙_, ap}
+use mathlib.Core.List.{List}
+use Prim.Native.Nat.{ℕ}
+use borrow.Fn.Kinds.{Dens, endedOf}
+use contract.Lifetimes.{Lfts}
+use denote.Ref.{now}
+use denote.Triple.Clauses.{AtExit}
+use Rattle.reasons.proofs.Numbers.{reasonOf, reason-is}
+use Rattle.jobs.specs.Verdict.{Verdict, planned, noFit, refused}
+use Rattle.planner.specs.Outcome.{Outcome, verdictOf}
+use Rattle.planner.specs.declared.Outcome.the-variants.{Planned, NoFit, Refused}
+use Rattle.planner.proofs.plan.Kinds as plan-kinds
+use Rattle.planner.proofs.plan.Reads as plan-reads
+
+-- ---- an outcome is told by its verdict
+abbrev outcomeOf : Verdict → Outcome
+outcomeOf (planned objective) = Planned objective
+outcomeOf (noFit l) = NoFit l
+outcomeOf (refused reason row) = Refused (reasonOf reason row)
+
+outcome-is : (r : Outcome) → outcomeOf (verdictOf r) ≡ r
+outcome-is (Planned objective) = refl
+outcome-is (NoFit l) = refl
+outcome-is (Refused r) = ap Refused (reason-is r)
+
+-- ---- what a call of `plan` is given, what it leaves, and all that its contract promises of these and of its answer; κs are the
+-- lifetimes of its two references
+module _ (κs : Lfts 2) where
+  abbrev pub Given : Type 0
+  Given = Dens κs plan-kinds.ps
+
+  abbrev pub Left : Type 0
+  Left = AtExit (endedOf 2 plan-kinds.ps plan-kinds.r) κs
+
+  abbrev pub areaIn : Left → List ℕ
+  areaIn x = now (x .1 .0)
+
+  abbrev pub Promised : Given → Outcome → Left → Type 0
+  Promised = plan-reads.Post κs
+
+  pub determined : (call : Given) (r s : Outcome) (x y : Left) → Promised call r x → Promised call s y → (r ≡ s) × (areaIn x ≡ areaIn y)
+  determined call r s x y p q = (sym (outcome-is r) ∙ ap outcomeOf (p .0 ∙ sym (q .0)) ∙ outcome-is s, p .1 .0 ∙ sym (q .1 .0))
