@@ -1,11 +1,11 @@
 -- `Factor::of_size` meets its contract: the loop's invariant is `Turn`, of the numbers that the locals' bits stand for.
 use mathlib.Core.Path.{_≡_}
 use mathlib.Core.Logic.{_↔_}
-use Prim.Native.Nat.{ℕ, zero, suc, _+_, _<_}
+use Prim.Native.Nat.{ℕ, zero, suc, _+_, _≤_, _<_}
 use native.Mathlib.Nat.{zero-lt-suc}
 use borrow.Author.Needs.{needs}
-use mir.Syntax.{w32, w64}
-use mir.Val.{SFits, Fits, toZ, ofZ}
+use mir.Syntax.{w64}
+use mir.Val.{SFits, toZ, ofZ}
 use mir.Facts.{toZ-ofZ, sfits-lit}
 use Rattle.ints.proofs.{ℤ, pos, natAbs, _-ℤ_, _*ℤ_, _≤ℤ_, _<ℤ_, quotZ, remZ, [], _∷_, arith, lin, _&_, signed}
 use Rattle.ints.proofs.Signed.{held, bits-equal}
@@ -50,9 +50,6 @@ module _ {a b r0 r1 s0 s1 : ℤ} {made : ℕ} (t : Turn a b r0 r1 s0 s1 made) (m
   difference : SFits w64 (s0 -ℤ held (held q *ℤ s1))
   difference = rw (toZ-ofZ fits-q, toZ-ofZ fits-p) fits-s
 
-  counted : pos 0 <ℤ b → Fits w32 (made + 1)
-  counted above = omega (arith, few t above most)
-
   is-zero : (ofZ w64 r2 ≡ 0) ↔ (r2 ≡ pos 0)
   is-zero = bits-equal w64 r2 (pos 0) fits-r (sfits-lit tt)
 
@@ -78,6 +75,9 @@ module _ (c : lts.At-loop (new-reads.Asked, new-reads.Learnt) reads.Pre reads.Po
   most : held (c .before .args .b) ≤ℤ pos 2000000000
   most = rw (toZ-ofZ (c .before .fits .b)) (c .before .pre .1 .1 .1)
 
+  counted : c .loop .made + 1 ≤ 2000000000
+  counted = few (c .loop .inv) above most
+
 loop-holds : tie.Need-loop-holds Inv-loop μ-loop
 loop-holds c = rw (toZ-ofZ (c .fits .a), toZ-ofZ (c .fits .b)) (first (c .args .a) (c .args .b) (c .pre .0) (c .pre .1 .0) (c .pre .1 .1 .0) (c .pre .1 .1 .1))
 
@@ -91,7 +91,7 @@ sub-s2 : tie.Need-sub-s2 Inv-loop μ-loop
 sub-s2 c = difference (c .loop .inv) (most c)
 
 add-new : tie.Need-add-new Inv-loop μ-loop
-add-new c = counted (c .before .loop .inv) (most (c .before)) (above (c .before))
+add-new c = omega (arith, counted (c .before))
 
 returns : tie.Need-returns Inv-loop μ-loop
 returns c =
@@ -100,7 +100,7 @@ returns c =
     rw (c .new .ensures) (rw (toZ-ofZ (k .before .fits .a), toZ-ofZ (k .before .fits .b)) at end)
 
 add-new-2 : tie.Need-add-new-2 Inv-loop μ-loop
-add-new-2 c = counted (c .before .before .loop .inv) (most (c .before .before)) (above (c .before .before))
+add-new-2 c = omega (arith, counted (c .before .before))
 
 returns-2 : tie.Need-returns-2 Inv-loop μ-loop
 returns-2 c =
@@ -111,7 +111,7 @@ returns-2 c =
     (rw (toZ-ofZ (k .before .fits .a), toZ-ofZ (k .before .fits .b)) at end)
 
 add-made : tie.Need-add-made Inv-loop μ-loop
-add-made c = counted (c .before .before .loop .inv) (most (c .before .before)) (above (c .before .before))
+add-made c = omega (arith, counted (c .before .before))
 
 loop-less : tie.Need-loop-less Inv-loop μ-loop
 loop-less c = falls (c .before .before .loop .inv) (most (c .before .before))
