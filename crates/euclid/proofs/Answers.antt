@@ -7,12 +7,12 @@ use Rattle.reasons.specs.Answer.{WorkingAnswer, gives, refused, RefusedUnless}
 use Rattle.reasons.proofs.Answers.{and-iff, gives-where, refuses-where, refused-unless}
 use Rattle.ints.specs.Divides.{IsGcd}
 use Rattle.ints.proofs.{ℤ, pos, natAbs}
-use Rattle.ints.proofs.Order.{abs-zero}
+use Rattle.ints.proofs.Order.{abs-zero, abs-above}
 use Rattle.euclid.specs.Remainders.{earlyFactor, earlyDivisions}
 use Rattle.euclid.specs.Coefficient.{Coefficient, isCoefficient}
 use Rattle.euclid.specs.CommonDivisor.{commonDivisor}
 use Rattle.euclid.specs.Factor.{IsFactor}
-use Rattle.euclid.proofs.FactorIsGcd.{gcd-is, some-size}
+use Rattle.euclid.proofs.FactorIsGcd.{factor-is-gcd}
 use Rattle.euclid.proofs.EarlyEnd.{early-end}
 use Rattle.euclid.proofs.Coefficient.{coefficient-iff}
 
@@ -39,7 +39,7 @@ module _ (a b : ℤ) where
       not-zero z = k .1 .not-zero (abs-zero b (ap natAbs z))
 
       is : g ≡ pos (earlyFactor (natAbs a) (natAbs b))
-      is = gcd-is a (pos (natAbs b)) not-zero g .0 (subst (λ m. IsGcd a (pos m) g) e (f .0 .gcd)) ∙ ap pos (early-end (natAbs a) (natAbs b) (some-size b (k .1 .not-zero)) .same-factor)
+      is = factor-is-gcd a (pos (natAbs b)) not-zero g .0 (subst (λ m. IsGcd a (pos m) g) e (f .0 .gcd)) ∙ ap pos (early-end (natAbs a) (natAbs b) (abs-above (k .1 .not-zero)) .same-factor)
 
   pub turned-away : ¬ (Coefficient a × Coefficient b) → Promised (refused 9 0)
   turned-away h = both (sym (refuses-where both-iff found h))

@@ -1,13 +1,13 @@
--- The factor is the greatest common divisor (`gcd-is`).
+-- The factor is the greatest common divisor, and no other number is (`factor-is-gcd`).
 use mathlib.Core.Path.{_≡_, refl, sym, _∙_, ap, subst}
 use mathlib.Core.Logic.{_≢_}
 use mathlib.Core.List.{_∷_}
 use Prim.Native.Nat.{ℕ, zero, suc, _%_, _≤_, _<_}
 use native.Mathlib.Nat.{mod-lt, zero-lt-suc}
 use Rattle.ints.specs.Divides.{IsGcd}
-use Rattle.ints.proofs.{ℤ, pos, negsuc, natAbs, arith}
-use Rattle.ints.proofs.Gcd as gcd-laws
-use Rattle.ints.proofs.Gcd.{euclid, gcd, gcd-only}
+use Rattle.ints.proofs.{ℤ, pos, natAbs, arith}
+use Rattle.ints.proofs.Order.{abs-above}
+use Rattle.ints.proofs.Gcd.{euclid, gcd, gcd-is, gcd-only}
 use Rattle.euclid.specs.Remainders.{firstRemainders, remainders, found, factor}
 use Rattle.euclid.specs.EarlyEnd.{FactorIsGcd}
 
@@ -23,14 +23,9 @@ last-divisor (suc n) a (suc b) h k = go n (a % suc b) (mod-lt a (zero-lt-suc b))
     go (suc n) zero l f = refl
     go n (suc r) l f = f (zero-lt-suc r)
 
-pub some-size : (b : ℤ) → b ≢ pos 0 → 0 < natAbs b
-some-size (pos zero) h = absurd (h refl)
-some-size (pos (suc n)) h = zero-lt-suc n
-some-size (negsuc n) h = zero-lt-suc n
-
 factor-is : (a b : ℤ) → b ≢ pos 0 → gcd a b ≡ pos (factor (natAbs a) (natAbs b))
 unfolding gcd remainders
-factor-is a b nz = ap pos (last-divisor (natAbs b) (natAbs a) (natAbs b) (some-size b nz) (omega arith))
+factor-is a b nz = ap pos (last-divisor (natAbs b) (natAbs a) (natAbs b) (abs-above nz) (omega arith))
 
-pub gcd-is : (a b : ℤ) → b ≢ pos 0 → FactorIsGcd a b
-gcd-is a b nz g = (λ s. gcd-only a b g nz s ∙ factor-is a b nz, λ e. subst (IsGcd a b) (sym (e ∙ sym (factor-is a b nz))) (gcd-laws.gcd-is a b))
+pub factor-is-gcd : (a b : ℤ) → b ≢ pos 0 → FactorIsGcd a b
+factor-is-gcd a b nz g = (λ s. gcd-only a b g nz s ∙ factor-is a b nz, λ e. subst (IsGcd a b) (sym (e ∙ sym (factor-is a b nz))) (gcd-is a b))

@@ -4,7 +4,7 @@
 pub mod Remainders
 -- the early end loses nothing (`early-end`); the count, one division at a time (`last-division`, `one-division`)
 pub mod EarlyEnd
--- the factor is the greatest common divisor (`gcd-is`)
+-- the factor is the greatest common divisor (`factor-is-gcd`)
 pub mod FactorIsGcd
 -- the test `isCoefficient` says what the sentence says (`coefficient-iff`)
 pub mod Coefficient

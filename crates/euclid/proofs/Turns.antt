@@ -1,12 +1,12 @@
 -- A turn of the loop makes one division: what holds before it (`Turn`), and what it comes to by what it leaves (`at-zero`, `at-one`,
 -- `again`).
-use mathlib.Core.Path.{_≡_, refl, sym, _∙_, ap, subst}
+use mathlib.Core.Path.{_≡_, sym, _∙_, ap, subst}
 use mathlib.Core.Logic.{_≢_}
-use Prim.Native.Nat.{ℕ, zero, suc, _+_, _%_, _≤_, _<_}
+use Prim.Native.Nat.{ℕ, suc, _+_, _%_, _≤_, _<_}
 use native.Mathlib.Nat.{mod-lt}
 use Rattle.ints.specs.Within.{Within}
 use Rattle.ints.proofs.{ℤ, pos, natAbs, _-ℤ_, _*ℤ_, _≤ℤ_, _<ℤ_, quotZ, remZ, [], _∷_, arith, lin, _&_, facts}
-use Rattle.ints.proofs.Order.{abs-nonneg, pos-below}
+use Rattle.ints.proofs.Order.{lt-ne, pos-below, abs-nonneg, abs-above}
 use Rattle.ints.proofs.Truncated.{abs-rem}
 use Rattle.euclid.specs.Remainders.{earlyDivisions}
 use Rattle.euclid.specs.Factor.{IsFactor}
@@ -23,25 +23,18 @@ pub record Turn (a b r0 r1 s0 s1 : ℤ) (made : ℕ) : Type 0 where
 pub first : (a b : ℤ) → pos 0 ≤ℤ a → Within 1000000000000000000 a → pos 0 <ℤ b → b ≤ℤ pos 2000000000 → Turn a b a b (pos 1) (pos 0) 0
 first a b low high above most = record { inv = start a b low high above most; some = above; count = omega arith; room = omega arith }
 
-above-zero : (x : ℤ) → pos 0 <ℤ x → 0 < natAbs x
-above-zero x h =
-    let size : x ≡ pos (natAbs x) = abs-nonneg x (lin (x ∷ []) h (search facts depth 20) (omega arith)) in
-    lin (x ∷ pos (natAbs x) ∷ []) (h & size) (search facts depth 20) (omega arith)
-
-neither : (n : ℕ) → n ≢ 0 → n ≢ 1 → 1 < n
-neither zero h k = absurd (h refl)
-neither (suc zero) h k = absurd (k refl)
-neither (suc (suc n)) h k = omega arith
-
 module _ {a b r0 r1 s0 s1 : ℤ} {made : ℕ} (t : Turn a b r0 r1 s0 s1 made) where
   abbrev r2 : ℤ
   r2 = remZ r0 r1
+
+  divisor : 0 < natAbs r1
+  divisor = abs-above (λ z. lt-ne (pos 0) r1 (t .some) (sym z))
 
   pub few : {n : ℕ} → pos 0 <ℤ b → b ≤ℤ pos n → made + 1 ≤ n
   few {n} above most =
       let size : b ≡ pos (natAbs b) = abs-nonneg b (lin (b ∷ []) above (search facts depth 20) (omega arith)) in
       let high : natAbs b ≤ n = lin (b ∷ pos (natAbs b) ∷ pos n ∷ []) (size & most) (search facts depth 20) (omega arith) in
-      omega (arith, t .room, above-zero r1 (t .some), high)
+      omega (arith, t .room, divisor, high)
 
   leaves : natAbs r2 ≡ natAbs r0 % natAbs r1
   leaves = abs-rem r0 r1
@@ -49,7 +42,7 @@ module _ {a b r0 r1 s0 s1 : ℤ} {made : ℕ} (t : Turn a b r0 r1 s0 s1 made) wh
   -- it was the last
   all-made : natAbs r2 ≤ 1 → made + 1 ≡ earlyDivisions (natAbs a) (natAbs b)
   all-made h =
-      let is : earlyDivisions (natAbs r0) (natAbs r1) ≡ 1 = last-division (natAbs r0) (natAbs r1) (above-zero r1 (t .some)) (subst (λ n. n ≤ 1) leaves h) in
+      let is : earlyDivisions (natAbs r0) (natAbs r1) ≡ 1 = last-division (natAbs r0) (natAbs r1) divisor (subst (λ n. n ≤ 1) leaves h) in
       omega (arith, is, t .count)
 
   pub at-zero : pos 0 <ℤ b → r2 ≡ pos 0 → IsFactor a b r1 s1 × (made + 1 ≡ earlyDivisions (natAbs a) (natAbs b))
@@ -60,20 +53,23 @@ module _ {a b r0 r1 s0 s1 : ℤ} {made : ℕ} (t : Turn a b r0 r1 s0 s1 made) wh
 
   -- others follow, by a divisor that is less
   pub less : natAbs r2 < natAbs r1
-  less = subst (λ n. n < natAbs r1) (sym leaves) (mod-lt (natAbs r0) (above-zero r1 (t .some)))
+  less = subst (λ n. n < natAbs r1) (sym leaves) (mod-lt (natAbs r0) divisor)
 
   module _ (not-0 : r2 ≢ pos 0) (not-1 : r2 ≢ pos 1) where
     size : r2 ≡ pos (natAbs r2)
     size = abs-nonneg r2 (step (t .inv) (t .some) .low1)
 
     more : 1 < natAbs r2
-    more = neither (natAbs r2) (λ z. not-0 (size ∙ ap pos z)) (λ z. not-1 (size ∙ ap pos z))
+    more =
+        let some : natAbs r2 ≢ 0 = λ z. not-0 (size ∙ ap pos z) in
+        let not-one : natAbs r2 ≢ 1 = λ z. not-1 (size ∙ ap pos z) in
+        omega (arith, some, not-one)
 
     count-again : made + 1 + earlyDivisions (natAbs r1) (natAbs r2) ≡ earlyDivisions (natAbs a) (natAbs b)
     count-again =
         let is : earlyDivisions (natAbs r0) (natAbs r1) ≡ suc (earlyDivisions (natAbs r1) (natAbs r2)) =
         subst (λ n. earlyDivisions (natAbs r0) (natAbs r1) ≡ suc (earlyDivisions (natAbs r1) n)) (sym leaves)
-        (one-division (natAbs r0) (natAbs r1) (above-zero r1 (t .some)) (subst (λ n. 1 < n) leaves more)) in
+        (one-division (natAbs r0) (natAbs r1) divisor (subst (λ n. 1 < n) leaves more)) in
         omega (arith, is, t .count)
 
     pub again : Turn a b r1 r2 s1 (s0 -ℤ quotZ r0 r1 *ℤ s1) (made + 1)

@@ -1,5 +1,5 @@
 -- The greatest common divisor, with Bézout's identity.
-use mathlib.Core.Path.{_≡_, refl, _∙_, ap}
+use mathlib.Core.Path.{_≡_, _∙_, ap}
 use mathlib.Core.List.{[], _∷_}
 use mathlib.Core.Logic.{_≢_}
 use Prim.Native.Nat.{ℕ, zero, suc, _/_, _%_, _≤_}
@@ -8,7 +8,7 @@ use native.Mathlib.Omega.{arith}
 use lib.IntN.{ℤ, pos, negsuc, negℤ, natAbs, _+ℤ_, _-ℤ_, _*ℤ_, zero-*ℤ}
 use lib.Signed.{_≤ℤ_, _<ℤ_}
 use Rattle.ints.specs.Divides.{_∣ℤ_, IsGcd}
-use Rattle.ints.proofs.Order.{nat-nonneg, le-antisym, pos-below}
+use Rattle.ints.proofs.Order.{nat-nonneg, le-antisym}
 use Rattle.ints.proofs.Linear.{facts, lin, lin₀, _&_}
 use Rattle.ints.proofs.Products.{cancel}
 use Rattle.ints.proofs.Divides.{divides-add, divides-mul, divides-by, divisor-range}
@@ -107,14 +107,9 @@ gcd-nonzero a b nz e = nz (bezout a b .right .exact ∙ ap (λ t. t *ℤ bezout 
 pub gcd-only : (a b g : ℤ) → b ≢ pos 0 → IsGcd a b g → g ≡ gcd a b
 gcd-only a b g nz s =
     let h = gcd-is a b in
-    let above : pos 0 <ℤ gcd a b = not-zero (gcd a b) (h .not-negative) (gcd-nonzero a b nz) in
+    let above : pos 0 <ℤ gcd a b = lin (gcd a b ∷ []) (h .not-negative & gcd-nonzero a b nz) (search facts depth 20) (omega arith) in
     let (some, low) = divisor-range (s .not-negative) (h .greatest g (s .left) (s .right)) above in
     le-antisym g (gcd a b) low (divisor-range (h .not-negative) (s .greatest (gcd a b) (h .left) (h .right)) some .1)
-  where
-    not-zero : (x : ℤ) → pos 0 ≤ℤ x → x ≢ pos 0 → pos 0 <ℤ x
-    not-zero (pos zero) k z = absurd (z refl)
-    not-zero (pos (suc n)) k z = pos-below (zero-lt-suc n)
-    not-zero (negsuc n) k z = absurd (k .le)
 
 -- with it divided out, a and b are prime to each other
 pub coprime : {a b g : ℤ} (s : Bezout a b g) → g ≢ pos 0 → s .left .factor *ℤ s .x +ℤ s .right .factor *ℤ s .y ≡ pos 1

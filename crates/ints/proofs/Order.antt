@@ -52,6 +52,9 @@ pub abs-zero : (x : ℤ) → natAbs x ≡ 0 → x ≡ pos 0
 abs-zero (pos n) e = ap pos e
 abs-zero (negsuc n) e = absurd (omega arith)
 
+pub abs-above : {x : ℤ} → x ≢ pos 0 → 0 < natAbs x
+abs-above {x} h = let some : natAbs x ≢ 0 = λ z. h (abs-zero x z) in omega (arith, some)
+
 -- one of the two
 pub le-or-lt : (x y : ℤ) → (x ≤ℤ y) ⊎ (y <ℤ x)
 le-or-lt x y = go (ltZ y x) (λ t. ltZ-yes t) (λ t. ltZ-no t)

@@ -8,12 +8,12 @@ use mir.Val.{SFits, toZ}
 use mir.Facts.{toZ-ofZ}
 use Rattle.ints.specs.Within.{Within}
 use Rattle.ints.proofs.{ℤ, pos, natAbs, _≤ℤ_, _<ℤ_, [], _∷_, arith, lin, facts, signed}
+use Rattle.ints.proofs.Order.{abs-above}
 use Rattle.ints.proofs.Signed.{held, cast, told}
 use Rattle.euclid.specs.Remainders.{earlyDivisions}
 use Rattle.euclid.specs.Coefficient.{Coefficient, isCoefficient}
 use Rattle.euclid.specs.Factor.{IsFactor}
 use Rattle.euclid.proofs.Coefficient.{coefficient-iff}
-use Rattle.euclid.proofs.FactorIsGcd.{some-size}
 use Rattle.euclid.proofs.Answers.{given, turned-away}
 use Rattle.euclid.proofs.common_divisor.Statement.{statement}
 use Rattle.euclid.proofs.common_divisor.Tie as tie
@@ -64,7 +64,7 @@ module _ (c : lts.After-size claims reads.Pre reads.Post) where
 
   asked : Within 1000000000000000000 (held a) × ((pos 0 <ℤ toZ w64 n) × (toZ w64 n ≤ℤ pos 2000000000))
   asked =
-      let some : 0 < n = rw n-is (some-size b (in-b .not-zero)) in
+      let some : 0 < n = rw n-is (abs-above (in-b .not-zero)) in
       rw (toZ-ofZ fits-a, n-cast)
       (lin (a ∷ []) (in-a .size) (search facts depth 20) (omega arith), (lin (pos n ∷ []) some (search facts depth 20) (omega arith), lin (pos n ∷ []) n-small (search facts depth 20) (omega arith)))
 
