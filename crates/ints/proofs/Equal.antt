@@ -1,7 +1,7 @@
 -- The test `isEqual`, and what it says.
-use mathlib.Core.Path.{_≡_, refl, ap}
+use mathlib.Core.Path.{_≡_, refl, sym, _∙_, ap}
 use mathlib.Core.Logic.{_↔_, _≢_}
-use mathlib.Core.Bool.{Bool, true, false, false≢true}
+use mathlib.Core.Bool.{Bool, true, false, not, false≢true}
 use lib.IntN.{ℤ, pos, negsuc}
 use borrow.Author.Tests.{eqb-true, eq-eqb}
 use Rattle.ints.specs.Equal.{isEqual}
@@ -25,3 +25,6 @@ equal-false x y h = go (isEqual x y) refl
     go : (t : Bool) → isEqual x y ≡ t → t ≡ false
     go true e = absurd (h (equal-true x y .0 e))
     go false e = refl
+
+pub other-true : (x y : ℤ) → (not (isEqual x y) ≡ true) ↔ (x ≢ y)
+other-true x y = (λ t e. false≢true (ap not (sym (equal-true x y .1 e)) ∙ t), λ h. ap not (equal-false x y h))

@@ -1,6 +1,7 @@
 //! Why a job or an argument is turned away. One enum for the whole program: every refusal carries a `Reason`.
 //!
-//! Read `specs/Numbers.antt` beside this file: it gives document 01's number and row of each case.
+//! Read `specs/Numbers.antt` beside this file: it gives document 01's number and row of each case; `specs/Answer.antt` says what a
+//! working answers.
 
 ghost use mathlib.Core.Path.{_≡_};
 ghost use Rattle.reasons.specs.Numbers.{numberOf, rowOf};

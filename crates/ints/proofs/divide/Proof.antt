@@ -6,7 +6,7 @@ use mir.Facts.{toZ-ofZ}
 use Rattle.ints.specs.Floor.{floorDiv}
 use Rattle.reasons.specs.Answer.{gives}
 use Rattle.ints.specs.Division.{DivisionLimits, divisionLimits}
-use Rattle.ints.proofs.Answers.{in-limits-out}
+use Rattle.ints.proofs.Answers.{in-limits-iff}
 use Rattle.ints.proofs.Signed.{told₂}
 use Rattle.ints.proofs.divide.Statement.{statement}
 use Rattle.ints.proofs.divide.Tie as tie
@@ -15,7 +15,7 @@ floor-div-requires : tie.Need-floor-div-requires
 floor-div-requires c κs =
     let s = c .before .before in
     let inside : divisionLimits (s .args .n) (s .args .d) ≡ true = told₂ divisionLimits (s .fits .n) (s .fits .d) (c .before .in-limits .ensures) (c .if1 .taken) in
-    let k : DivisionLimits (s .args .n) (s .args .d) = in-limits-out (s .args .n) (s .args .d) inside in
+    let k : DivisionLimits (s .args .n) (s .args .d) = in-limits-iff (s .args .n) (s .args .d) .0 inside in
     rw (toZ-ofZ (s .fits .n), toZ-ofZ (s .fits .d)) (k .dividend, k .not-zero)
 
 returns : tie.Need-returns
