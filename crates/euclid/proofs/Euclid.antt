@@ -73,9 +73,6 @@ module _ {a b r0 r1 s0 s1 : ℤ} (i : Inv a b r0 r1 s0 s1) where
     r2-low : pos 0 ≤ℤ r2
     r2-low = rem-nonneg r0 r1 (i .low0)
 
-    pub r2-less : r2 <ℤ r1
-    r2-less = rem-range r0 r1 some .1
-
     -- what is taken from s0 has the other sign
     apart : pos 0 ≤ℤ (q *ℤ negℤ (i .sign *ℤ s1))
     apart = mul-nonneg (quot-nonneg r0 r1 (i .low0) (i .low1)) (lin ρ (i .sign1) (search facts depth 20) (omega arith))

@@ -36,7 +36,7 @@ pub fn common_divisor(a: i64, b: i64) -> CommonDivisor
     CommonDivisor::Refused(Reason::WrongArgument)
 }
 
-/// The greatest common divisor of a and b with more: a·cofactor is gcd modulo b, and so many divisions were made.
+/// The greatest common divisor of a and b: a·cofactor is gcd modulo b, and so many divisions were made to find it.
 pub struct Factor {
     pub gcd: i64,
     pub cofactor: i64,
@@ -83,11 +83,11 @@ impl Factor {
             let q = r0 / r1;
             let r2 = r0 % r1;
             let s2 = s0 - q * s1;
-            if r2 == 0 {
-                return Factor::new(r1, s1, made + 1);
-            }
             if r2 == 1 {
                 return Factor::new(r2, s2, made + 1);
+            }
+            if r2 == 0 {
+                return Factor::new(r1, s1, made + 1);
             }
             r0 = r1;
             r1 = r2;

@@ -1,4 +1,4 @@
--- What the contracts of the workings cite.
+-- What a contract that refuses cites.
 
 -- what a reason says in document 01's numbers
 pub mod Numbers

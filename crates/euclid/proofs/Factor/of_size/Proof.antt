@@ -96,8 +96,10 @@ add-new c = omega (arith, counted (c .before))
 returns : tie.Need-returns Inv-loop μ-loop
 returns c =
     let k = c .before .before in
-    let end = at-zero (k .loop .inv) (above k) (is-zero (k .loop .inv) (most k) .0 (c .before .if1 .taken)) in
-    rw (c .new .ensures) (rw (toZ-ofZ (k .before .fits .a), toZ-ofZ (k .before .fits .b)) at end)
+    let t = k .loop .inv in
+    let end = at-one t (above k) (is-one t (most k) .0 (c .before .if1 .taken)) in
+    rw (c .new .ensures, toZ-ofZ (fits-r t (most k)), toZ-ofZ (fits-q t (most k)), toZ-ofZ (fits-p t (most k)), toZ-ofZ (fits-s t (most k)))
+    (rw (toZ-ofZ (k .before .fits .a), toZ-ofZ (k .before .fits .b)) at end)
 
 add-new-2 : tie.Need-add-new-2 Inv-loop μ-loop
 add-new-2 c = omega (arith, counted (c .before .before))
@@ -105,10 +107,8 @@ add-new-2 c = omega (arith, counted (c .before .before))
 returns-2 : tie.Need-returns-2 Inv-loop μ-loop
 returns-2 c =
     let k = c .before .before .before in
-    let t = k .loop .inv in
-    let end = at-one t (above k) (is-one t (most k) .0 (c .before .if2 .taken)) in
-    rw (c .new2 .ensures, toZ-ofZ (fits-r t (most k)), toZ-ofZ (fits-q t (most k)), toZ-ofZ (fits-p t (most k)), toZ-ofZ (fits-s t (most k)))
-    (rw (toZ-ofZ (k .before .fits .a), toZ-ofZ (k .before .fits .b)) at end)
+    let end = at-zero (k .loop .inv) (above k) (is-zero (k .loop .inv) (most k) .0 (c .before .if2 .taken)) in
+    rw (c .new2 .ensures) (rw (toZ-ofZ (k .before .fits .a), toZ-ofZ (k .before .fits .b)) at end)
 
 add-made : tie.Need-add-made Inv-loop μ-loop
 add-made c = omega (arith, counted (c .before .before))
@@ -117,7 +117,7 @@ loop-less : tie.Need-loop-less Inv-loop μ-loop
 loop-less c = falls (c .before .before .loop .inv) (most (c .before .before))
 
 loop-again : tie.Need-loop-again Inv-loop μ-loop
-loop-again c = goes-on (c .before .before .loop .inv) (most (c .before .before)) (c .before .if1 .left) (c .if2 .left)
+loop-again c = goes-on (c .before .before .loop .inv) (most (c .before .before)) (c .if2 .left) (c .before .if1 .left)
 
 pub of-size-spec : {M : Type 1} → statement M
 of-size-spec =
