@@ -1,13 +1,13 @@
 -- The first best of a rising list is the best: it is a member, beats every other, and no other member does.
 use mathlib.Core.Path.{_≡_, refl, sym, _∙_, ap}
-use mathlib.Core.Logic.{_⊎_, inl, inr}
+use mathlib.Core.Logic.{_⊎_, inl, inr, _↔_}
 use mathlib.Core.Bool.{Bool, true, false, cond}
 use mathlib.Core.List.{List·Memᴰ·not-nil}
 use lib.Signed.{<ℤ-≤ℤ-trans}
 use Rattle.ints.proofs.{ℤ, _≤ℤ_, _<ℤ_, ltZ, List, [], _∷_, arith, facts, lin, le-or-lt}
 use Rattle.ints.proofs.Order.{lt-asym, lt-ne, lt-trans, lt-true, lt-false, le-antisym, le-lt-trans}
 use Rattle.lists.specs.Members.{_∈_, here, there}
-use Rattle.lists.specs.Rising.{Rising, more}
+use Rattle.lists.specs.Rising.{Rising, none, more}
 use Rattle.lists.specs.Best.{Beats, greater, earlier, Best, firstBest, bestOf}
 
 module _ {A : Type 0} (value : A → ℤ) {R : A → A → Type 0} where
@@ -118,3 +118,26 @@ module _ {A : Type 0} (value : A → ℤ) {R : A → A → Type 0} where
     unfolding bestOf
     is-bestOf trans d {xs = []} r p = absurd (List·Memᴰ·not-nil (p .member))
     is-bestOf trans d {xs = y ∷ ys} r p = best-unique p (first-best trans y ys r)
+
+-- ---- in any order of the list the best is of one value
+module _ {A : Type 0} (value : A → ℤ) where
+  -- every list rises in the order in which anything comes before anything
+  abbrev Anywhere : A → A → Type 0
+  Anywhere x y = Unit {0}
+
+  anyhow : (xs : List A) → Rising Anywhere xs
+  anyhow [] = none
+  anyhow (x ∷ xs) = more (λ y h. tt) (anyhow xs)
+
+  no-less : (d : A) {xs ys : List A} {x : A} → ((z : A) → z ∈ xs → z ∈ ys) → x ∈ xs → value (bestOf value d xs) ≤ℤ value (bestOf value d ys)
+  no-less d {xs} {ys} m h = at-most value (best ys (m _ h) .beats (bestOf value d xs) (m _ (best xs h .member)))
+    where
+      best : (zs : List A) {z : A} → z ∈ zs → Best value Anywhere zs (bestOf value d zs)
+      best zs = bestOf-best value (λ x y z r s. tt) d (anyhow zs)
+
+  pub same-value : (d : A) {xs ys : List A} → ((z : A) → z ∈ xs ↔ z ∈ ys) → value (bestOf value d xs) ≡ value (bestOf value d ys)
+  same-value d {xs = []} {ys = []} m = refl
+  same-value d {xs = []} {ys = y ∷ ys} m = absurd (List·Memᴰ·not-nil (m y .1 (here refl)))
+  same-value d {xs = x ∷ xs} {ys} m =
+      le-antisym (value (bestOf value d (x ∷ xs))) (value (bestOf value d ys))
+      (no-less d (λ z. m z .0) (here refl)) (no-less d (λ z. m z .1) (m x .0 (here refl)))

@@ -6,6 +6,8 @@ pub mod Members
 pub mod Places
 -- two rising lists with the same members are equal (`same-members`): every "equals the definition" of later crates goes by this
 pub mod Rising
+-- a list from its last member to its first has the same members (`in-reverse`), and rises the other way (`rising-reverse`)
+pub mod Reverse
 -- a list kept by a test has just the members that pass, and rises if the list does: `in-keep`, `rising-keep`
 pub mod Keep
 -- a test put to every member says the same in any order of the list (`every-permuted`)
