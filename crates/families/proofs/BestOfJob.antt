@@ -14,7 +14,7 @@ use Rattle.lists.specs.Best.{greater, earlier}
 use Rattle.lists.specs.Sums.{sum, pick, sumOf}
 use Rattle.lists.proofs.Table.{length-table}
 use Rattle.lists.proofs.Places.{same-places}
-use Rattle.lists.proofs.Lexicographic.{lower-asym, lower-at, Compared, lower, equal, higher, compared, FirstLower, first-lower}
+use Rattle.lists.proofs.Lexicographic.{lower-at, FirstLower, first-lower}
 use Rattle.lists.proofs.Best.{at-most, among-equals}
 use Rattle.lists.proofs.Sums.{sum-ext, sum-sub, sum-nonpos, sum-nonpos-zero, pick-no, pick-yes, regroup}
 use Rattle.jobs.specs.declared.Equation.{Equation}
@@ -23,6 +23,7 @@ use Rattle.jobs.specs.TieBreak.{Earlier}
 use Rattle.jobs.specs.Solution.{number, IsSolution, objective, Better, Optimal, best}
 use Rattle.jobs.specs.Component.{lowest, leads}
 use Rattle.jobs.specs.Family.{componentJob, fits, slope}
+use Rattle.jobs.proofs.TieBreak.{earlier-asym, earlier-compared}
 use Rattle.jobs.proofs.Solutions.{best-is, best-only}
 use Rattle.jobs.proofs.Components.{lowest-le, lowest-self, in-leads}
 use Rattle.jobs.proofs.Assembly.{outside-zero, component-length, variable-inside, variable-outside, partOf, assembled, part-inside, part-outside, assembled-at, part-solution, assembled-solution, some-iff, fits-iff, fits-some}
@@ -136,17 +137,12 @@ module _ (j : Job) where
 
   -- ---- the order, component by component
   -- the first place where two lists differ is also the first where their parts in the component of that variable do
-  lower-part : (x y : List ℤ) → length x ≡ n → Lower x y → (l : ℕ) × (l < n) × Lower (partOf j l x) (partOf j l y)
-  lower-part x y e h = (lowest j i, omega (arith, lowest-le j i, b), lower-at (partOf j (lowest j i) x) (partOf j (lowest j i) y) i long long′ same less)
+  lower-part : {x y : List ℤ} (p : FirstLower x y) → p .at < n → (l : ℕ) × (l < n) × Lower (partOf j l x) (partOf j l y)
+  lower-part {x} {y} p b =
+      (lowest j i, omega (arith, lowest-le j i, b), lower-at (partOf j (lowest j i) x) (partOf j (lowest j i) y) i long long′ same less)
     where
-      p : FirstLower x y
-      p = first-lower h
-
       i : ℕ
       i = p .at
-
-      b : i < n
-      b = omega (arith, p .left, e)
 
       long : i < length (partOf j (lowest j i) x)
       long = omega (arith, part-length (lowest j i) x, b)
@@ -160,17 +156,12 @@ module _ (j : Job) where
       less : number (partOf j (lowest j i) x) i <ℤ number (partOf j (lowest j i) y) i
       less = rw (part-inside j (lowest j i) x i b refl, part-inside j (lowest j i) y i b refl) (p .less)
 
-  lower-by-parts : ByParts j Lower
-  lower-by-parts = record { asym = lower-asym; compares = λ x y e. sides (compared x y e); part = lower-part }
-    where
-      sides : {x y : List ℤ} → Compared x y → (x ≡ y) ⊎ (Lower x y ⊎ Lower y x)
-      sides (lower h) = inr (inl h)
-      sides (equal h) = inl h
-      sides (higher h) = inr (inr h)
-
-  -- the tie-break is such an order; one that is turned round is so too
+  -- so the tie-break is such an order
   earlier-by-parts : ByParts j Earlier
-  earlier-by-parts = lower-by-parts
+  earlier-by-parts = record { asym = earlier-asym; compares = earlier-compared; part = part }
+    where
+      part : (x y : List ℤ) → length x ≡ n → Earlier x y → (l : ℕ) × (l < n) × Earlier (partOf j l x) (partOf j l y)
+      part x y e h = let p = first-lower h in lower-part p (omega (arith, p .left, e))
 
   -- a list whose parts are all equal or earlier is equal or earlier
   parts-earlier : {R : List ℤ → List ℤ → Type 0} → ByParts j R → (x y : List ℤ) → length x ≡ n → length y ≡ n →

@@ -16,6 +16,8 @@ pub mod Faults
 pub mod Lawful
 -- a job with other bounds: what of it stays
 pub mod WithBounds
+-- the tie-break is a strict total order: `earlier-asym`, `earlier-trans`, `earlier-compared`; solutions in its order (`earliest-first`)
+pub mod TieBreak
 -- the exhaustive list has just the solutions (`in-solutions`), rising; "better" is a strict total order (`better-trans`,
 -- `better-compared`); the best is a solution and better than every other, and nothing else is (`best-is`, `best-only`)
 pub mod Solutions

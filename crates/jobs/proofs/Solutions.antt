@@ -19,11 +19,11 @@ use Rattle.lists.proofs.Members.{no-members, in-map, in-flatMap}
 use Rattle.lists.proofs.Rising.{rising-one, rising-map, rising-flatMap}
 use Rattle.lists.proofs.Keep.{in-keep, rising-keep, every-at}
 use Rattle.lists.proofs.Range.{in-range, rising-range}
-use Rattle.lists.proofs.Lexicographic.{lower-asym, lower-trans, Compared, lower, equal, higher, compared}
 use Rattle.lists.proofs.Best.{bestOf-best, is-bestOf, beats-asym, beats-trans, beats-compared}
 use Rattle.jobs.specs.Job.{Variable, Equation, Job, noVariable, noEquation, equation}
-use Rattle.jobs.specs.TieBreak.{Earlier}
+use Rattle.jobs.specs.TieBreak.{Earlier, earliestFirst}
 use Rattle.jobs.specs.Solution.{Optimal, number, value, IsSolution, fronts, box, solutions, objective, Better, best}
+use Rattle.jobs.proofs.TieBreak.{earliest-first, in-earliest-first, earlier-asym, earlier-trans, earlier-compared}
 
 -- ---- the box: the lists within the bounds, in lexicographic order
 in-fronts : (xs : List ℤ) (rest : List (List ℤ)) (z : List ℤ) → z ∈ fronts xs rest ↔ ((x : ℤ) × (ys : List ℤ) × (x ∈ xs) × (ys ∈ rest) × (z ≡ x ∷ ys))
@@ -126,33 +126,35 @@ none-iff j = Iff·trans (no-members (solutions j)) (λ f x s. f x (in-solutions 
 
 -- ---- `Better j` is a strict total order on the lists of one length
 pub better-asym : (j : Job) (x y : List ℤ) → Better j x y → Better j y x → ⊥
-better-asym j x y = beats-asym (objective j) lower-asym
+better-asym j x y = beats-asym (objective j) earlier-asym
 
 pub better-trans : (j : Job) (x y z : List ℤ) → Better j x y → Better j y z → Better j x z
-better-trans j x y z = beats-trans (objective j) lower-trans
+better-trans j x y z = beats-trans (objective j) earlier-trans
 
 pub better-compared : (j : Job) (x y : List ℤ) → length x ≡ length y → (x ≡ y) ⊎ (Better j x y ⊎ Better j y x)
-better-compared j x y e = beats-compared (objective j) (go (compared x y e))
-  where
-    go : Compared x y → (x ≡ y) ⊎ (Lower x y ⊎ Lower y x)
-    go (lower h) = inr (inl h)
-    go (equal h) = inl h
-    go (higher h) = inr (inr h)
+better-compared j x y e = beats-compared (objective j) (earlier-compared x y e)
 
 -- ---- the best
--- x is the best of the list of solutions exactly when it is optimal
-best-iff : (j : Job) (x : List ℤ) → Best (objective j) Earlier (solutions j) x ↔ Optimal j x
+-- the solutions, earliest first
+in-order : (j : Job) → Rising Earlier (earliestFirst (solutions j))
+in-order j = earliest-first (rising-solutions j)
+
+in-either : (j : Job) (x : List ℤ) → (x ∈ earliestFirst (solutions j)) ↔ IsSolution j x
+in-either j x = Iff·trans (in-earliest-first (solutions j) x) (in-solutions j x)
+
+-- x is the best of that list exactly when it is optimal
+best-iff : (j : Job) (x : List ℤ) → Best (objective j) Earlier (earliestFirst (solutions j)) x ↔ Optimal j x
 best-iff j x = (
-  λ b. record { solution = in-solutions j x .0 (b .member); beats = λ y s. b .beats y (in-solutions j y .1 s) },
-  λ o. record { member = in-solutions j x .1 (o .solution); beats = λ y h. o .beats y (in-solutions j y .0 h) },
+  λ b. record { solution = in-either j x .0 (b .member); beats = λ y s. b .beats y (in-either j y .1 s) },
+  λ o. record { member = in-either j x .1 (o .solution); beats = λ y h. o .beats y (in-either j y .0 h) },
 )
 
 -- where there is a solution at all, the best is one, and better than every other
 pub best-is : (j : Job) (x : List ℤ) → IsSolution j x → Optimal j (best j)
 unfolding best
-best-is j x s = best-iff j (best j) .0 (bestOf-best (objective j) lower-trans [] (rising-solutions j) (in-solutions j x .1 s))
+best-is j x s = best-iff j (best j) .0 (bestOf-best (objective j) earlier-trans [] (in-order j) (in-either j x .1 s))
 
 -- and no other is
 pub best-only : (j : Job) (x : List ℤ) → Optimal j x → x ≡ best j
 unfolding best
-best-only j x o = is-bestOf (objective j) lower-asym lower-trans [] (rising-solutions j) (best-iff j x .1 o)
+best-only j x o = is-bestOf (objective j) earlier-asym earlier-trans [] (in-order j) (best-iff j x .1 o)

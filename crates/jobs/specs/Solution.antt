@@ -13,7 +13,7 @@ use Rattle.lists.specs.Range.{range}
 use Rattle.lists.specs.Best.{Beats, bestOf}
 use Rattle.lists.specs.Sums.{sum}
 use Rattle.jobs.specs.Job.{Variable, Equation, Job, variable, equation}
-use Rattle.jobs.specs.TieBreak.{Earlier}
+use Rattle.jobs.specs.TieBreak.{Earlier, earliestFirst}
 
 -- the number that a list gives to a variable
 abbrev pub number : List ℤ → ℕ → ℤ
@@ -65,7 +65,7 @@ pub record Optimal (j : Job) (x : List ℤ) : Type 0 where
   pub solution : IsSolution j x
   pub beats : (y : List ℤ) → IsSolution j y → (y ≡ x) ⊎ Better j x y
 
--- the first solution that no other exceeds in worth (proofs/Solutions.antt: where there is one, it is the optimal one)
+-- the earliest solution that no other exceeds in worth (proofs/Solutions.antt: where there is one, it is the optimal one)
 unfoldable pub best : Job → List ℤ
 unfolding bestOf solutions objective
-best j = bestOf (objective j) [] (solutions j)
+best j = bestOf (objective j) [] (earliestFirst (solutions j))

@@ -7,3 +7,7 @@ use Rattle.lists.specs.Lexicographic.{Lower}
 
 abbrev pub Earlier : List ℤ → List ℤ → Type 0
 Earlier = Lower
+
+-- what stands in lexicographic order, in this one
+abbrev pub earliestFirst : List (List ℤ) → List (List ℤ)
+earliestFirst xs = xs
