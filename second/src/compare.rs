@@ -65,6 +65,9 @@ struct Tally {
     /// planned, with two or more fits in a group of two or more counts; and in one of a hundred or more
     chosen: u64,
     chosen_large: u64,
+    /// planned, with a group in which equally good fit-outs are to choose from: one with a falling count, one with a weight, and two or
+    /// more such groups
+    equals: [u64; 3],
     different: u64,
 }
 
@@ -75,10 +78,21 @@ impl Tally {
                 self.planned += 1;
                 self.chosen += u64::from(has_choice(sheet, 2));
                 self.chosen_large += u64::from(has_choice(sheet, 100));
+                self.add_equals(bytes, sheet);
             }
             Outcome::NoFit(_) => self.no_fit += 1,
             Outcome::Refused(refusal) => self.add_refused(bytes, refusal),
         }
+    }
+
+    fn add_equals(&mut self, bytes: &[u8], sheet: &Sheet) {
+        let Ok(job) = job::read(bytes) else { return };
+        let groups: Vec<usize> =
+            (0..sheet.groups.len()).filter(|&g| sheet.groups[g].fits > 1 && sheet.groups[g].gain == 0).collect();
+        let counts = || sheet.counts.iter().zip(&job.counts).filter(|(row, _)| groups.contains(&row.group));
+        self.equals[0] += u64::from(counts().any(|(row, _)| row.step < 0));
+        self.equals[1] += u64::from(counts().any(|(_, count)| count.weight != 0));
+        self.equals[2] += u64::from(groups.len() > 1);
     }
 
     fn add_refused(&mut self, bytes: &[u8], refusal: &Refusal) {
@@ -106,7 +120,8 @@ impl Tally {
         match kind {
             Kind::Mixed => {
                 let choices = share(self.chosen, 4) && share(self.chosen_large, 40);
-                share(self.planned, 3) && share(self.no_fit, 10) && choices && reasons(200)
+                let equals = self.equals.iter().all(|&times| share(times, 25));
+                share(self.planned, 3) && share(self.no_fit, 10) && choices && equals && reasons(200)
             }
             Kind::Spoiled => {
                 let rows = self.rows.iter().flatten().all(|&times| share(times, 100));
@@ -219,6 +234,10 @@ fn report(tally: &Tally, kind: Kind, seed: u64, jobs: u64) -> bool {
         Kind::Mixed => {
             let (chosen, large) = (tally.chosen, tally.chosen_large);
             println!("second: planned with a choice in a group of 2 or more counts: {chosen}; of 100 or more: {large}");
+            println!(
+                "second: with equally good fit-outs in a group, a falling count, a weight, two such groups: {:?}",
+                tally.equals
+            );
         }
         Kind::Spoiled => println!("second: of 5 to 7 at the first row, at the last and between: {:?}", tally.rows),
     }

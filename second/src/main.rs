@@ -1,4 +1,4 @@
-//! A second planner, written from document 01 and by another method, to compare the proved one with.
+//! A second planner, written from documents 01 and 02 and by another method, to compare the proved one with.
 //!
 //!     second plan <JOB                             prints the plan of the job on standard input
 //!     second compare PROGRAM [SEED [JOBS]]         runs PROGRAM on many jobs, and compares what it prints

@@ -57,8 +57,7 @@ pub fn plan_job(job: &Job) -> Outcome {
 /// Enter the rows of the next group and of its counts.
 fn enter(sheet: &mut Sheet, job: &Job, family: &Family) {
     let gain = family.members.iter().map(|m| job.counts[m.count].weight * m.step).sum();
-    // The lowest count rises with k, so of equally good fit-outs the first has the lower number there.
-    let at = if gain > 0 { family.fits - 1 } else { 0 };
+    let at = family.best(job);
     for m in &family.members {
         let group = sheet.groups.len();
         sheet.counts[m.count] = CountRow { number: m.base + m.step * at, base: m.base, step: m.step, group };
@@ -137,6 +136,27 @@ struct Member {
     count: usize,
     base: i64,
     step: i64,
+}
+
+impl Family {
+    /// The k of the best fit-out. Each step changes the worth by the same amount, so it is the first or the last. Among fit-outs of
+    /// equal worth "the one with the higher number at count 0 comes first, then at count 1, and so on": of two lists that begin with
+    /// the worth, and go on with the numbers in the order of the counts, the greater.
+    fn best(&self, job: &Job) -> i64 {
+        let mut members: Vec<&Member> = self.members.iter().collect();
+        members.sort_by_key(|m| m.count);
+        let rank = |k: i64| {
+            let numbers: Vec<i64> = members.iter().map(|m| m.base + m.step * k).collect();
+            let worth: i64 = members.iter().zip(&numbers).map(|(m, x)| job.counts[m.count].weight * x).sum();
+            (worth, numbers)
+        };
+        let last = self.fits - 1;
+        if rank(last) > rank(0) {
+            last
+        } else {
+            0
+        }
+    }
 }
 
 fn family(job: &Job, group: &Group) -> Option<Family> {

@@ -1,4 +1,4 @@
-//! The plan of a small job by going through every list of numbers, as document 01 defines it; to test the planner with.
+//! The plan of a small job by going through every list of numbers, as documents 01 and 02 define it; to test the planner with.
 
 use crate::job::{Count, Equation, Job};
 use crate::plan::{CountRow, GroupRow, Outcome, Sheet};
@@ -23,6 +23,24 @@ pub fn search(job: &Job, most: i64) -> Option<Outcome> {
     }
     sheet.worth = sheet.counts.iter().zip(&job.counts).map(|(row, count)| count.weight * row.number).sum();
     Some(Outcome::Planned(sheet))
+}
+
+/// The best fit-outs of a job: how many have the greatest worth, and of these the greatest list.
+pub struct Best {
+    pub equals: usize,
+    pub numbers: Vec<i64>,
+}
+
+/// By going through every list of the whole job, whatever its groups: no best where there is no fit-out, and None where there are too many
+/// lists to go through.
+pub fn best(job: &Job, most: i64) -> Option<Option<Best>> {
+    let all: Members = job.counts.iter().enumerate().collect();
+    lists(&all, most)?;
+    let fits = fits(job, &all);
+    let worth = |list: &Vec<i64>| -> i64 { job.counts.iter().zip(list).map(|(count, x)| count.weight * x).sum() };
+    let Some(greatest) = fits.iter().map(worth).max() else { return Some(None) };
+    let equals: Vec<Vec<i64>> = fits.into_iter().filter(|list| worth(list) == greatest).collect();
+    Some(Some(Best { equals: equals.len(), numbers: equals.into_iter().max()? }))
 }
 
 /// The lowest count that each count is joined to: labels are lowered along the ties until nothing changes.
@@ -81,11 +99,11 @@ fn holds(tie: &Equation, members: &Members, list: &[i64]) -> bool {
     }
 }
 
-/// Base, step, fits, the chosen place and gain, read off the list of all fit-outs.
+/// Base, step, fits, the chosen place and gain, read off the list of all fit-outs. The best is that of greatest worth and, among equals,
+/// the greatest list: the one with the higher number where two first differ.
 fn enter(sheet: &mut Sheet, members: &Members, fits: &[Vec<i64>], group: usize) {
     let worth = |list: &Vec<i64>| -> i64 { members.iter().zip(list).map(|((_, count), x)| count.weight * x).sum() };
-    let best = fits.iter().map(worth).max().expect("there is a fit-out");
-    let at = fits.iter().position(|list| worth(list) == best).expect("one is the best");
+    let at = (0..fits.len()).max_by_key(|&k| (worth(&fits[k]), &fits[k])).expect("there is a fit-out");
     let steps: Vec<i64> = match fits {
         [first, second, ..] => second.iter().zip(first).map(|(y, x)| y - x).collect(),
         _ => vec![0; members.len()],

@@ -8,7 +8,7 @@ use crate::made::{self, Size};
 use crate::plan::{plan, plan_job, Outcome, Sheet};
 use crate::print::print;
 use crate::random::Random;
-use crate::search::search;
+use crate::search::{best, search};
 
 #[test]
 fn examples() {
@@ -45,6 +45,25 @@ fn small_jobs_as_by_search() {
         planned > 4_000 && chosen > 2_000 && no_fit > 2_000,
         "{planned} planned, {chosen} with a choice, {no_fit} no fit"
     );
+}
+
+/// Of the whole job every other fit-out has less worth, or equal worth and a lower number where the two first differ.
+#[test]
+fn small_jobs_are_best_of_all_lists() {
+    let (mut planned, mut among_equals) = (0, 0);
+    for number in 0..20_000 {
+        let random = &mut Random::new(5, number);
+        let job = if random.chance(50) { made::hidden(random, Size::Small) } else { made::wild(random, 5) };
+        let Some(wanted) = best(&job, 3_000) else { continue };
+        let given = match plan_job(&job) {
+            Outcome::Planned(sheet) => Some(sheet.counts.iter().map(|row| row.number).collect::<Vec<i64>>()),
+            _ => None,
+        };
+        planned += u32::from(wanted.is_some());
+        among_equals += u32::from(wanted.as_ref().is_some_and(|best| best.equals > 1));
+        assert_eq!(given, wanted.map(|best| best.numbers), "job {number}: {job:?}");
+    }
+    assert!(planned > 3_000 && among_equals > 500, "{planned} planned, {among_equals} among equals");
 }
 
 /// The numbers of the fit-out at the k-th place of each group, or past the ends.

@@ -1,13 +1,13 @@
 -- The choice in one component, where its solutions in order are base + step·k, k = 0 to fits − 1: the last of them is the best where
--- the slope is above 0, and the first elsewhere. c is the component's own job, and its slope is `slope c`.
+-- the slope is 0 or more, and the first elsewhere. c is the component's own job, and its slope is `slope c`.
 use mathlib.Core.Path.{_≡_, refl, sym, _∙_, ap}
 use mathlib.Core.Logic.{_⊎_, inl, inr}
 use mathlib.Core.Bool.{Bool, true, false, cond}
 use Prim.Native.Nat.{ℕ, _-_, _≤_, _<_}
 use native.Mathlib.Decide.{ℕ-discrete, decLt}
 use lib.ListN.{length, getD}
-use Rattle.ints.proofs.{ℤ, pos, _+ℤ_, _*ℤ_, _≤ℤ_, _<ℤ_, ltZ, List, [], _∷_, arith, lin, lin₀, facts, le-or-lt}
-use Rattle.ints.proofs.Order.{lt-true, lt-false, le-antisym, pos-below}
+use Rattle.ints.proofs.{ℤ, pos, _+ℤ_, _*ℤ_, _≤ℤ_, _<ℤ_, leZ, List, [], _∷_, arith, lin₀, facts, le-or-lt}
+use Rattle.ints.proofs.Order.{le-true, le-false, le-antisym, pos-below}
 use Rattle.lists.specs.Table.{table}
 use Rattle.lists.specs.Lexicographic.{Lower}
 use Rattle.lists.specs.Best.{greater, earlier}
@@ -54,14 +54,14 @@ objective-member c k =
         ∙ weighed (w i) (number (base c) i) (number (step c) i) (pos k)
 
 -- ---- the choice
-choice-up : (g : ℤ) (n : ℕ) → pos 0 <ℤ g → choice g n ≡ n - 1
-choice-up g n h = rw (lt-true (pos 0) g .1 h)
+choice-up : (g : ℤ) (n : ℕ) → pos 0 ≤ℤ g → choice g n ≡ n - 1
+choice-up g n h = rw (le-true (pos 0) g .1 h)
 
 choice-down : (g : ℤ) (n : ℕ) → g <ℤ pos 0 → choice g n ≡ 0
-choice-down g n h = rw (lt-false (pos 0) g .1 (lin (g ∷ []) h (search facts depth 20) (omega arith)))
+choice-down g n h = rw (le-false (pos 0) g .1 h)
 
 pub choice-below : (g : ℤ) (n : ℕ) → 1 ≤ n → choice g n < n
-choice-below g n h = go (ltZ (pos 0) g)
+choice-below g n h = go (leZ (pos 0) g)
   where
     go : (t : Bool) → cond t (n - 1) 0 < n
     go true = omega arith
@@ -115,24 +115,27 @@ module _ (c : Job) (e : solutions c ≡ table (member c) (fits c)) where
   -- with a slope of 0 all members are of equal objective, and the chosen one comes before every other. In the choice it counts
   -- only here which of two lists is `Earlier`: a turned tie-break turns this lemma, and `choice` with its laws above.
   tie : slope c ≡ pos 0 → (k : ℕ) → k < fits c → Beaten (choice (slope c) (fits c)) k
-  tie g k h = rw first (go (ℕ-discrete k 0))
+  tie g k h = rw last (go (ℕ-discrete k (fits c - 1)))
     where
-      first : choice (slope c) (fits c) ≡ 0
-      first = rw g
+      last : choice (slope c) (fits c) ≡ fits c - 1
+      last = rw g
 
-      level : objective c (member c 0) ≡ objective c (member c k)
-      level = objective-member c 0 ∙ line-level (objective c (base c)) (slope c) (pos 0) (pos k) g ∙ sym (objective-member c k)
+      level : objective c (member c (fits c - 1)) ≡ objective c (member c k)
+      level =
+          objective-member c (fits c - 1)
+          ∙ line-level (objective c (base c)) (slope c) (pos (fits c - 1)) (pos k) g
+          ∙ sym (objective-member c k)
 
-      go : Dec (k ≡ 0) → Beaten 0 k
+      go : Dec (k ≡ fits c - 1) → Beaten (fits c - 1) k
       go (yes q) = inl (ap (member c) q)
-      go (no n) = let r : Earlier (member c 0) (member c k) = members-rise 0 k (omega arith) h in inr (earlier level r)
+      go (no n) = let r : Earlier (member c (fits c - 1)) (member c k) = members-rise k (fits c - 1) (omega arith) (omega arith) in inr (earlier level r)
 
   choice-beats : (k : ℕ) → k < fits c → Beaten (choice (slope c) (fits c)) k
   choice-beats k h = go (le-or-lt (slope c) (pos 0)) (le-or-lt (pos 0) (slope c))
     where
       go : (slope c ≤ℤ pos 0) ⊎ (pos 0 <ℤ slope c) → (pos 0 ≤ℤ slope c) ⊎ (slope c <ℤ pos 0) → Beaten (choice (slope c) (fits c)) k
-      go (inr g) d = rw (choice-up (slope c) (fits c) g) (last-beats g k h)
-      go (inl g) (inr d) = rw (choice-down (slope c) (fits c) d) (first-beats d k)
+      go g (inr d) = rw (choice-down (slope c) (fits c) d) (first-beats d k)
+      go (inr g) (inl d) = rw (choice-up (slope c) (fits c) d) (last-beats g k h)
       go (inl g) (inl d) = tie (le-antisym (slope c) (pos 0) g d) k h
 
   -- so where there is a member at all, the chosen one is the best solution, and its place is 01's chosen k

@@ -161,7 +161,7 @@ module _ (j : Job) where
   earlier-by-parts = record { asym = earlier-asym; compares = earlier-compared; part = part }
     where
       part : (x y : List ℤ) → length x ≡ n → Earlier x y → (l : ℕ) × (l < n) × Earlier (partOf j l x) (partOf j l y)
-      part x y e h = let p = first-lower h in lower-part p (omega (arith, p .left, e))
+      part x y e h = let p = first-lower h in lower-part p (omega (arith, p .right, e))
 
   -- a list whose parts are all equal or earlier is equal or earlier
   parts-earlier : {R : List ℤ → List ℤ → Type 0} → ByParts j R → (x y : List ℤ) → length x ≡ n → length y ≡ n →

@@ -36,7 +36,7 @@ pub mod FamilySizes
 -- the model ends in the definitions (`exact`): the solutions of each component **are** base + step·k (`are-families`), none exactly
 -- when the family is empty (`empty-iff`)
 pub mod ModelIsExact
--- the best of one component: the last of its family where the slope is above 0, and the first elsewhere (`choice-optimal`,
+-- the best of one component: the last of its family where the slope is 0 or more, and the first elsewhere (`choice-optimal`,
 -- `best-member`, `chosen-is`)
 pub mod BestOfComponent
 -- the best of each component, put together, is the best of the job: `objective-parts`, `assembled-optimal`, **`plan-optimal`**,

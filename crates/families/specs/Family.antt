@@ -8,7 +8,7 @@ use mathlib.Core.List.{List}
 use Prim.Native.Nat.{ℕ, _-_, _≤_, _<_}
 use lib.ListN.{length}
 use lib.IntN.{ℤ, pos, _+ℤ_, _*ℤ_}
-use lib.Signed.{_<ℤ_, ltZ}
+use lib.Signed.{_<ℤ_, leZ}
 use Rattle.lists.specs.Table.{table}
 use Rattle.jobs.specs.Job.{Job}
 use Rattle.jobs.specs.Solution.{number, solutions}
@@ -27,6 +27,7 @@ pub record IsFamily (j : Job) (l : ℕ) : Type 0 where
   pub rests : fits (componentJob j l) ≤ 1 → (i : ℕ) → number (step (componentJob j l)) i ≡ pos 0
   pub moves : 2 ≤ fits (componentJob j l) → (i : ℕ) → i < length (j .variables) → lowest j i ≡ l → number (step (componentJob j l)) i ≢ pos 0
 
--- "k is chosen for the greatest worth": the last member where the gain is above 0, and the first elsewhere
+-- "k is chosen for the greatest worth": the last member where the gain is 0 or more, and the first elsewhere. Where it is 0 all members
+-- are worth the same, and the last has the higher number at the lowest count: it is the earliest of them.
 abbrev pub choice : ℤ → ℕ → ℕ
-choice gain many = cond (ltZ (pos 0) gain) (many - 1) 0
+choice gain many = cond (leZ (pos 0) gain) (many - 1) 0

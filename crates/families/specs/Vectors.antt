@@ -1,4 +1,5 @@
--- Small jobs, and pieces of the model, at worked values. What is expected of each was worked out by hand from document 01.
+-- Small jobs, and pieces of the model, at worked values. What is expected of each was worked out by hand from documents 01
+-- and 02.
 use mathlib.Core.Path.{_≡_, refl, ap}
 use mathlib.Core.Bool.{Bool, true, false}
 use mathlib.Core.Option.{Option, none, some}
@@ -74,12 +75,12 @@ sheetM =
     176 ∷ 0 ∷ 0 ∷ 0 ∷ 32 ∷ 0 ∷ 0 ∷ 0 ∷ 48 ∷ 0 ∷ 0 ∷ 0 ∷ 0 ∷ 0 ∷ 0 ∷ 0 ∷ [] ++
     -- count 2: number 6, base 0, step 2, group 0
     6 ∷ 0 ∷ 0 ∷ 0 ∷ 0 ∷ 0 ∷ 0 ∷ 0 ∷ 2 ∷ 0 ∷ 0 ∷ 0 ∷ 0 ∷ 0 ∷ 0 ∷ 0 ∷ [] ++
-    -- count 3: number 2, base 2, step 1, group 1
-    2 ∷ 0 ∷ 0 ∷ 0 ∷ 2 ∷ 0 ∷ 0 ∷ 0 ∷ 1 ∷ 0 ∷ 0 ∷ 0 ∷ 1 ∷ 0 ∷ 0 ∷ 0 ∷ [] ++
+    -- count 3: number 5, base 2, step 1, group 1
+    5 ∷ 0 ∷ 0 ∷ 0 ∷ 2 ∷ 0 ∷ 0 ∷ 0 ∷ 1 ∷ 0 ∷ 0 ∷ 0 ∷ 1 ∷ 0 ∷ 0 ∷ 0 ∷ [] ++
     -- group 0: fits 4, k 3, gain 82
     4 ∷ 0 ∷ 0 ∷ 0 ∷ 3 ∷ 0 ∷ 0 ∷ 0 ∷ 82 ∷ 0 ∷ 0 ∷ 0 ∷ 0 ∷ 0 ∷ 0 ∷ 0 ∷ [] ++
-    -- group 1: fits 4, k 0, gain 0
-    4 ∷ 0 ∷ 0 ∷ 0 ∷ 0 ∷ 0 ∷ 0 ∷ 0 ∷ 0 ∷ 0 ∷ 0 ∷ 0 ∷ 0 ∷ 0 ∷ 0 ∷ 0 ∷ []
+    -- group 1: fits 4, k 3, gain 0: 2, 3, 4 and 5 are worth the same, and 5 is the highest
+    4 ∷ 0 ∷ 0 ∷ 0 ∷ 3 ∷ 0 ∷ 0 ∷ 0 ∷ 0 ∷ 0 ∷ 0 ∷ 0 ∷ 0 ∷ 0 ∷ 0 ∷ 0 ∷ []
 
 abbrev widestSheet : List ℕ
 widestSheet =
@@ -308,6 +309,6 @@ longest : commonNumbers (by (pos 1000000) (negℤ (pos 999999)) (pos 1)) full fu
 unfolding commonNumbers
 longest = refl
 
--- a gain, none and a loss
-choices : (choice (pos 82) 4 ≡ 3) × ((choice (pos 0) 4 ≡ 0) × ((choice (negℤ (pos 1)) 5 ≡ 0) × (choice (pos 5) 1 ≡ 0)))
-choices = (refl, (refl, (refl, refl)))
+-- a gain, none and a loss; with one member, a gain and none
+choices : (choice (pos 82) 4 ≡ 3) × (choice (pos 0) 4 ≡ 3) × (choice (negℤ (pos 1)) 5 ≡ 0) × (choice (pos 5) 1 ≡ 0) × (choice (pos 0) 1 ≡ 0)
+choices = (refl, refl, refl, refl, refl)

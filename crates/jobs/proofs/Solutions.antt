@@ -136,25 +136,25 @@ better-compared j x y e = beats-compared (objective j) (earlier-compared x y e)
 
 -- ---- the best
 -- the solutions, earliest first
-in-order : (j : Job) → Rising Earlier (earliestFirst (solutions j))
-in-order j = earliest-first (rising-solutions j)
+rising-earliest : (j : Job) → Rising Earlier (earliestFirst (solutions j))
+rising-earliest j = earliest-first (rising-solutions j)
 
-in-either : (j : Job) (x : List ℤ) → (x ∈ earliestFirst (solutions j)) ↔ IsSolution j x
-in-either j x = Iff·trans (in-earliest-first (solutions j) x) (in-solutions j x)
+in-earliest : (j : Job) (x : List ℤ) → (x ∈ earliestFirst (solutions j)) ↔ IsSolution j x
+in-earliest j x = Iff·trans (in-earliest-first (solutions j) x) (in-solutions j x)
 
 -- x is the best of that list exactly when it is optimal
 best-iff : (j : Job) (x : List ℤ) → Best (objective j) Earlier (earliestFirst (solutions j)) x ↔ Optimal j x
 best-iff j x = (
-  λ b. record { solution = in-either j x .0 (b .member); beats = λ y s. b .beats y (in-either j y .1 s) },
-  λ o. record { member = in-either j x .1 (o .solution); beats = λ y h. o .beats y (in-either j y .0 h) },
+  λ b. record { solution = in-earliest j x .0 (b .member); beats = λ y s. b .beats y (in-earliest j y .1 s) },
+  λ o. record { member = in-earliest j x .1 (o .solution); beats = λ y h. o .beats y (in-earliest j y .0 h) },
 )
 
 -- where there is a solution at all, the best is one, and better than every other
 pub best-is : (j : Job) (x : List ℤ) → IsSolution j x → Optimal j (best j)
 unfolding best
-best-is j x s = best-iff j (best j) .0 (bestOf-best (objective j) earlier-trans [] (in-order j) (in-either j x .1 s))
+best-is j x s = best-iff j (best j) .0 (bestOf-best (objective j) earlier-trans [] (rising-earliest j) (in-earliest j x .1 s))
 
 -- and no other is
 pub best-only : (j : Job) (x : List ℤ) → Optimal j x → x ≡ best j
 unfolding best
-best-only j x o = is-bestOf (objective j) earlier-asym earlier-trans [] (in-order j) (best-iff j x .1 o)
+best-only j x o = is-bestOf (objective j) earlier-asym earlier-trans [] (rising-earliest j) (best-iff j x .1 o)

@@ -65,7 +65,8 @@ pub record Optimal (j : Job) (x : List ℤ) : Type 0 where
   pub solution : IsSolution j x
   pub beats : (y : List ℤ) → IsSolution j y → (y ≡ x) ⊎ Better j x y
 
--- the earliest solution that no other exceeds in worth (proofs/Solutions.antt: where there is one, it is the optimal one)
+-- the earliest solution that no other exceeds in worth, and so of these the last in lexicographic order (proofs/Solutions.antt: where
+-- there is one, it is the optimal one)
 unfoldable pub best : Job → List ℤ
 unfolding bestOf solutions objective
 best j = bestOf (objective j) [] (earliestFirst (solutions j))

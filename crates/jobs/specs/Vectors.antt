@@ -1,4 +1,4 @@
--- Small jobs through the definitions, byte for byte. What is expected of each was worked out by hand from document 01; a row of
+-- Small jobs through the definitions, byte for byte. What is expected of each was worked out by hand from documents 01 and 02; a row of
 -- a sheet stands on a line, under its fields.
 use mathlib.Core.Path.{_≡_, refl, ap}
 use mathlib.Core.List.{List, [], _∷_, _++_, map}
@@ -62,12 +62,12 @@ narrowMSheet =
     80 ∷ 0 ∷ 0 ∷ 0 ∷ 32 ∷ 0 ∷ 0 ∷ 0 ∷ 48 ∷ 0 ∷ 0 ∷ 0 ∷ 0 ∷ 0 ∷ 0 ∷ 0 ∷ [] ++
     -- count 2: number 2, base 0, step 2, group 0
     2 ∷ 0 ∷ 0 ∷ 0 ∷ 0 ∷ 0 ∷ 0 ∷ 0 ∷ 2 ∷ 0 ∷ 0 ∷ 0 ∷ 0 ∷ 0 ∷ 0 ∷ 0 ∷ [] ++
-    -- count 3: number 2, base 2, step 1, group 1
-    2 ∷ 0 ∷ 0 ∷ 0 ∷ 2 ∷ 0 ∷ 0 ∷ 0 ∷ 1 ∷ 0 ∷ 0 ∷ 0 ∷ 1 ∷ 0 ∷ 0 ∷ 0 ∷ [] ++
+    -- count 3: number 3, base 2, step 1, group 1
+    3 ∷ 0 ∷ 0 ∷ 0 ∷ 2 ∷ 0 ∷ 0 ∷ 0 ∷ 1 ∷ 0 ∷ 0 ∷ 0 ∷ 1 ∷ 0 ∷ 0 ∷ 0 ∷ [] ++
     -- group 0: fits 2, k 1, gain 82
     2 ∷ 0 ∷ 0 ∷ 0 ∷ 1 ∷ 0 ∷ 0 ∷ 0 ∷ 82 ∷ 0 ∷ 0 ∷ 0 ∷ 0 ∷ 0 ∷ 0 ∷ 0 ∷ [] ++
-    -- group 1: fits 2, k 0, gain 0
-    2 ∷ 0 ∷ 0 ∷ 0 ∷ 0 ∷ 0 ∷ 0 ∷ 0 ∷ 0 ∷ 0 ∷ 0 ∷ 0 ∷ 0 ∷ 0 ∷ 0 ∷ 0 ∷ []
+    -- group 1: fits 2, k 1, gain 0: 2 and 3 are worth the same, and 3 is the higher
+    2 ∷ 0 ∷ 0 ∷ 0 ∷ 1 ∷ 0 ∷ 0 ∷ 0 ∷ 0 ∷ 0 ∷ 0 ∷ 0 ∷ 0 ∷ 0 ∷ 0 ∷ 0 ∷ []
 
 -- no counts, no groups, their rows at 24, worth 0
 abbrev pub emptySheet : List ℕ
@@ -135,38 +135,106 @@ ringSheet =
 abbrev pub twice : ℕ → List ℕ
 twice c = header 2 2 48 88 ++ plain 3 ++ plain 3 ++ difference 0 1 0 ++ difference 0 1 c
 
--- for c = 0: all are worth the same, and the lowest c0 comes first
+-- for c = 0: all are worth the same, and the highest c0 comes first
 abbrev pub twiceSheet : List ℕ
 twiceSheet =
     worthNothing ++
-    -- count 0: number 0, base 0, step 1, group 0
-    0 ∷ 0 ∷ 0 ∷ 0 ∷ 0 ∷ 0 ∷ 0 ∷ 0 ∷ 1 ∷ 0 ∷ 0 ∷ 0 ∷ 0 ∷ 0 ∷ 0 ∷ 0 ∷ [] ++
+    -- count 0: number 3, base 0, step 1, group 0
+    3 ∷ 0 ∷ 0 ∷ 0 ∷ 0 ∷ 0 ∷ 0 ∷ 0 ∷ 1 ∷ 0 ∷ 0 ∷ 0 ∷ 0 ∷ 0 ∷ 0 ∷ 0 ∷ [] ++
     -- count 1: the same
-    0 ∷ 0 ∷ 0 ∷ 0 ∷ 0 ∷ 0 ∷ 0 ∷ 0 ∷ 1 ∷ 0 ∷ 0 ∷ 0 ∷ 0 ∷ 0 ∷ 0 ∷ 0 ∷ [] ++
-    -- group 0: fits 4, k 0, gain 0
-    4 ∷ 0 ∷ 0 ∷ 0 ∷ 0 ∷ 0 ∷ 0 ∷ 0 ∷ 0 ∷ 0 ∷ 0 ∷ 0 ∷ 0 ∷ 0 ∷ 0 ∷ 0 ∷ []
+    3 ∷ 0 ∷ 0 ∷ 0 ∷ 0 ∷ 0 ∷ 0 ∷ 0 ∷ 1 ∷ 0 ∷ 0 ∷ 0 ∷ 0 ∷ 0 ∷ 0 ∷ 0 ∷ [] ++
+    -- group 0: fits 4, k 3, gain 0
+    4 ∷ 0 ∷ 0 ∷ 0 ∷ 3 ∷ 0 ∷ 0 ∷ 0 ∷ 0 ∷ 0 ∷ 0 ∷ 0 ∷ 0 ∷ 0 ∷ 0 ∷ 0 ∷ []
 
 -- c0 and c2 make one group, c0 − c2 = 0; c1 and c3 make another, by the tie given
 abbrev groups : List ℕ → List ℕ
 groups tie = header 4 2 72 112 ++ count (plus 0) (plus 3) (plus 1) ++ count (plus 0) (plus 3) (plus 1) ++ plain 3 ++ count (plus 0) (plus 3) (plus 1) ++ difference 0 2 0 ++ tie
 
--- for c1 + c3 = 3: each of the four fit-outs of the second group makes the worth 6, and the lowest c1 comes first
+-- for c1 + c3 = 3: each of the four fit-outs of the second group makes the worth 6, and the highest c1 comes first, with c3 falling
 abbrev groupsSheet : List ℕ
 groupsSheet =
     -- 4 counts, 2 groups, their rows at 88, worth 6
     65 ∷ 78 ∷ 83 ∷ 49 ∷ 4 ∷ 0 ∷ 2 ∷ 0 ∷ 24 ∷ 0 ∷ 0 ∷ 0 ∷ 88 ∷ 0 ∷ 0 ∷ 0 ∷ 6 ∷ 0 ∷ 0 ∷ 0 ∷ 0 ∷ 0 ∷ 0 ∷ 0 ∷ [] ++
     -- count 0: number 3, base 0, step 1, group 0
     3 ∷ 0 ∷ 0 ∷ 0 ∷ 0 ∷ 0 ∷ 0 ∷ 0 ∷ 1 ∷ 0 ∷ 0 ∷ 0 ∷ 0 ∷ 0 ∷ 0 ∷ 0 ∷ [] ++
-    -- count 1: number 0, base 0, step 1, group 1
-    0 ∷ 0 ∷ 0 ∷ 0 ∷ 0 ∷ 0 ∷ 0 ∷ 0 ∷ 1 ∷ 0 ∷ 0 ∷ 0 ∷ 1 ∷ 0 ∷ 0 ∷ 0 ∷ [] ++
+    -- count 1: number 3, base 0, step 1, group 1
+    3 ∷ 0 ∷ 0 ∷ 0 ∷ 0 ∷ 0 ∷ 0 ∷ 0 ∷ 1 ∷ 0 ∷ 0 ∷ 0 ∷ 1 ∷ 0 ∷ 0 ∷ 0 ∷ [] ++
     -- count 2: number 3, base 0, step 1, group 0
     3 ∷ 0 ∷ 0 ∷ 0 ∷ 0 ∷ 0 ∷ 0 ∷ 0 ∷ 1 ∷ 0 ∷ 0 ∷ 0 ∷ 0 ∷ 0 ∷ 0 ∷ 0 ∷ [] ++
-    -- count 3: number 3, base 3, step −1, group 1
-    3 ∷ 0 ∷ 0 ∷ 0 ∷ 3 ∷ 0 ∷ 0 ∷ 0 ∷ 255 ∷ 255 ∷ 255 ∷ 255 ∷ 1 ∷ 0 ∷ 0 ∷ 0 ∷ [] ++
+    -- count 3: number 0, base 3, step −1, group 1
+    0 ∷ 0 ∷ 0 ∷ 0 ∷ 3 ∷ 0 ∷ 0 ∷ 0 ∷ 255 ∷ 255 ∷ 255 ∷ 255 ∷ 1 ∷ 0 ∷ 0 ∷ 0 ∷ [] ++
     -- group 0: fits 4, k 3, gain 1
     4 ∷ 0 ∷ 0 ∷ 0 ∷ 3 ∷ 0 ∷ 0 ∷ 0 ∷ 1 ∷ 0 ∷ 0 ∷ 0 ∷ 0 ∷ 0 ∷ 0 ∷ 0 ∷ [] ++
-    -- group 1: fits 4, k 0, gain 0
-    4 ∷ 0 ∷ 0 ∷ 0 ∷ 0 ∷ 0 ∷ 0 ∷ 0 ∷ 0 ∷ 0 ∷ 0 ∷ 0 ∷ 0 ∷ 0 ∷ 0 ∷ 0 ∷ []
+    -- group 1: fits 4, k 3, gain 0
+    4 ∷ 0 ∷ 0 ∷ 0 ∷ 3 ∷ 0 ∷ 0 ∷ 0 ∷ 0 ∷ 0 ∷ 0 ∷ 0 ∷ 0 ∷ 0 ∷ 0 ∷ 0 ∷ []
+
+-- c0 + c2 = 3 and c1 − c3 = 0: two groups, and in both all fit-outs are worth the same, 6 and 0
+abbrev bothTie : List ℕ
+bothTie =
+    header 4 2 72 112 ++
+    count (plus 0) (plus 3) (plus 2) ++
+    count (minus 2) (plus 1) (plus 1) ++
+    count (plus 0) (plus 3) (plus 2) ++
+    count (minus 2) (plus 1) (minus 1) ++
+    total 0 2 3 ++
+    difference 1 3 0
+
+abbrev bothTieSheet : List ℕ
+bothTieSheet =
+    -- 4 counts, 2 groups, their rows at 88, worth 6
+    65 ∷ 78 ∷ 83 ∷ 49 ∷ 4 ∷ 0 ∷ 2 ∷ 0 ∷ 24 ∷ 0 ∷ 0 ∷ 0 ∷ 88 ∷ 0 ∷ 0 ∷ 0 ∷ 6 ∷ 0 ∷ 0 ∷ 0 ∷ 0 ∷ 0 ∷ 0 ∷ 0 ∷ [] ++
+    -- count 0: number 3, base 0, step 1, group 0
+    3 ∷ 0 ∷ 0 ∷ 0 ∷ 0 ∷ 0 ∷ 0 ∷ 0 ∷ 1 ∷ 0 ∷ 0 ∷ 0 ∷ 0 ∷ 0 ∷ 0 ∷ 0 ∷ [] ++
+    -- count 1: number 1, base −2, step 1, group 1
+    1 ∷ 0 ∷ 0 ∷ 0 ∷ 254 ∷ 255 ∷ 255 ∷ 255 ∷ 1 ∷ 0 ∷ 0 ∷ 0 ∷ 1 ∷ 0 ∷ 0 ∷ 0 ∷ [] ++
+    -- count 2: number 0, base 3, step −1, group 0
+    0 ∷ 0 ∷ 0 ∷ 0 ∷ 3 ∷ 0 ∷ 0 ∷ 0 ∷ 255 ∷ 255 ∷ 255 ∷ 255 ∷ 0 ∷ 0 ∷ 0 ∷ 0 ∷ [] ++
+    -- count 3: as count 1
+    1 ∷ 0 ∷ 0 ∷ 0 ∷ 254 ∷ 255 ∷ 255 ∷ 255 ∷ 1 ∷ 0 ∷ 0 ∷ 0 ∷ 1 ∷ 0 ∷ 0 ∷ 0 ∷ [] ++
+    -- group 0: fits 4, k 3, gain 0
+    4 ∷ 0 ∷ 0 ∷ 0 ∷ 3 ∷ 0 ∷ 0 ∷ 0 ∷ 0 ∷ 0 ∷ 0 ∷ 0 ∷ 0 ∷ 0 ∷ 0 ∷ 0 ∷ [] ++
+    -- group 1: the same
+    4 ∷ 0 ∷ 0 ∷ 0 ∷ 3 ∷ 0 ∷ 0 ∷ 0 ∷ 0 ∷ 0 ∷ 0 ∷ 0 ∷ 0 ∷ 0 ∷ 0 ∷ 0 ∷ []
+
+-- three untied counts. One more of c0 and of c1 together is worth nothing; but c0 alone gains, and c1 alone loses. c2 does neither.
+abbrev across : List ℕ
+across = header 3 0 60 60 ++ count (plus 0) (plus 3) (plus 1) ++ count (plus 0) (plus 3) (minus 1) ++ plain 3
+
+abbrev acrossSheet : List ℕ
+acrossSheet =
+    -- 3 counts, 3 groups, their rows at 72, worth 3
+    65 ∷ 78 ∷ 83 ∷ 49 ∷ 3 ∷ 0 ∷ 3 ∷ 0 ∷ 24 ∷ 0 ∷ 0 ∷ 0 ∷ 72 ∷ 0 ∷ 0 ∷ 0 ∷ 3 ∷ 0 ∷ 0 ∷ 0 ∷ 0 ∷ 0 ∷ 0 ∷ 0 ∷ [] ++
+    -- count 0: number 3, base 0, step 1, group 0
+    3 ∷ 0 ∷ 0 ∷ 0 ∷ 0 ∷ 0 ∷ 0 ∷ 0 ∷ 1 ∷ 0 ∷ 0 ∷ 0 ∷ 0 ∷ 0 ∷ 0 ∷ 0 ∷ [] ++
+    -- count 1: number 0, base 0, step 1, group 1
+    0 ∷ 0 ∷ 0 ∷ 0 ∷ 0 ∷ 0 ∷ 0 ∷ 0 ∷ 1 ∷ 0 ∷ 0 ∷ 0 ∷ 1 ∷ 0 ∷ 0 ∷ 0 ∷ [] ++
+    -- count 2: number 3, base 0, step 1, group 2
+    3 ∷ 0 ∷ 0 ∷ 0 ∷ 0 ∷ 0 ∷ 0 ∷ 0 ∷ 1 ∷ 0 ∷ 0 ∷ 0 ∷ 2 ∷ 0 ∷ 0 ∷ 0 ∷ [] ++
+    -- group 0: fits 4, k 3, gain 1
+    4 ∷ 0 ∷ 0 ∷ 0 ∷ 3 ∷ 0 ∷ 0 ∷ 0 ∷ 1 ∷ 0 ∷ 0 ∷ 0 ∷ 0 ∷ 0 ∷ 0 ∷ 0 ∷ [] ++
+    -- group 1: fits 4, k 0, gain −1
+    4 ∷ 0 ∷ 0 ∷ 0 ∷ 0 ∷ 0 ∷ 0 ∷ 0 ∷ 255 ∷ 255 ∷ 255 ∷ 255 ∷ 255 ∷ 255 ∷ 255 ∷ 255 ∷ [] ++
+    -- group 2: fits 4, k 3, gain 0
+    4 ∷ 0 ∷ 0 ∷ 0 ∷ 3 ∷ 0 ∷ 0 ∷ 0 ∷ 0 ∷ 0 ∷ 0 ∷ 0 ∷ 0 ∷ 0 ∷ 0 ∷ 0 ∷ []
+
+-- −c0 − c1 = 7: all are worth 14, and the c0 nearest to 0 is the highest
+abbrev below0 : List ℕ
+below0 =
+    header 2 1 48 68 ++
+    count (minus 6) (minus 1) (minus 2) ++
+    count (minus 6) (minus 1) (minus 2) ++
+    equationBytes 0 1 (minus 1) (minus 1) 7
+
+abbrev below0Sheet : List ℕ
+below0Sheet =
+    -- 2 counts, 1 group, its row at 56, worth 14
+    65 ∷ 78 ∷ 83 ∷ 49 ∷ 2 ∷ 0 ∷ 1 ∷ 0 ∷ 24 ∷ 0 ∷ 0 ∷ 0 ∷ 56 ∷ 0 ∷ 0 ∷ 0 ∷ 14 ∷ 0 ∷ 0 ∷ 0 ∷ 0 ∷ 0 ∷ 0 ∷ 0 ∷ [] ++
+    -- count 0: number −1, base −6, step 1, group 0
+    255 ∷ 255 ∷ 255 ∷ 255 ∷ 250 ∷ 255 ∷ 255 ∷ 255 ∷ 1 ∷ 0 ∷ 0 ∷ 0 ∷ 0 ∷ 0 ∷ 0 ∷ 0 ∷ [] ++
+    -- count 1: number −6, base −1, step −1, group 0
+    250 ∷ 255 ∷ 255 ∷ 255 ∷ 255 ∷ 255 ∷ 255 ∷ 255 ∷ 255 ∷ 255 ∷ 255 ∷ 255 ∷ 0 ∷ 0 ∷ 0 ∷ 0 ∷ [] ++
+    -- group 0: fits 6, k 5, gain 0
+    6 ∷ 0 ∷ 0 ∷ 0 ∷ 5 ∷ 0 ∷ 0 ∷ 0 ∷ 0 ∷ 0 ∷ 0 ∷ 0 ∷ 0 ∷ 0 ∷ 0 ∷ 0 ∷ []
 
 -- ---- jobs without one
 -- 2·c0 + 4·c1 = 7
@@ -196,7 +264,10 @@ fitted =
     filled falling (pos 2) fallingSheet ∷
     filled (ring 1) (pos 0) ringSheet ∷
     filled (twice 0) (pos 0) twiceSheet ∷
-    filled (groups (total 1 3 3)) (pos 6) groupsSheet ∷ []
+    filled (groups (total 1 3 3)) (pos 6) groupsSheet ∷
+    filled bothTie (pos 6) bothTieSheet ∷
+    filled across (pos 3) acrossSheet ∷
+    filled below0 (pos 14) below0Sheet ∷ []
 
 abbrev pub vectors : List Vector
 vectors =

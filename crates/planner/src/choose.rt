@@ -61,12 +61,12 @@ pub(crate) fn slopes(
     slopes
 }
 
-// The index of the member that is chosen: the last where each step gains, and the first elsewhere.
+// The index of the member that is chosen: the first where each step loses, and the last elsewhere.
 pub(crate) fn choice(slope: i64, many: u32) -> u32
     requires { ⌜ 1 ≤ many ⌝ }
     ensures { λ r. ⌜ r ≡ choice slope many ⌝ }
 {
-    if 0 < slope { many - 1 } else { 0 }
+    if 0 <= slope { many - 1 } else { 0 }
 }
 
 // A variable's number in the member that is chosen.

@@ -1,7 +1,8 @@
 //! The job of a line of text, and what the line expects of it.
 //!
 //! Behind the bar each variable has its group's lowest variable, base, step and fits; behind a further mark, >, are the worth, the
-//! numbers of all variables, and each group's chosen k and gain. Without it the weights are 0, and so is all that follows from them.
+//! numbers of all variables, and each group's chosen k and gain. Without it the weights are 0, and so are the worth and each gain: all
+//! members of a group are worth the same, and the last, which has the highest number at the lowest variable, is expected.
 
 ghost use Prim.Native.Nat.{_≤_};
 use crate::answer;
@@ -124,20 +125,29 @@ fn entry(t: Line, i: u16) -> Entry {
     let at = place(t, i) % 256;
     let group = groups_below(t, lowest(t, i));
     let base = t.after(b'|', 4 * at + 1);
+    let step = t.after(b'|', 4 * at + 2);
+    let fits = t.after(b'|', 4 * at + 3);
+    let last = std::num::wrapping_sub_u64(fits, 1);
+    let weighed = t.has(b'>');
     let chosen = chosen_at(t, group);
     Entry {
-        number: if t.has(b'>') {
+        number: if weighed {
             t.after(b'>', 1 + at)
         } else {
-            base
+            along(base, step, last)
         },
         base: base,
-        step: t.after(b'|', 4 * at + 2),
+        step: step,
         group: group,
-        fits: t.after(b'|', 4 * at + 3),
-        chosen: t.after(b'>', chosen),
+        fits: fits,
+        chosen: if weighed { t.after(b'>', chosen) } else { last },
         gain: t.after(b'>', chosen + 1),
     }
+}
+
+// base + step·k, in the 32 bits that a sheet has for it; k is at most 2,000,000,000.
+fn along(base: u64, step: u64, k: u64) -> u64 {
+    std::num::wrapping_add_u64(base, step % 4294967296 * (k % 2147483648))
 }
 
 // Where a group's chosen k stands, behind the worth and the numbers.

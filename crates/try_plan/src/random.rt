@@ -25,8 +25,7 @@ fn variables(b: &mut Buffer, n: u8, seed: u64) {
     while i < n {
         let low = lowest(seed, i);
         let high = sum(low, width(seed, i), 255);
-        let weight = sum(251, draw(seed, 50 + i as u64, 11), 0);
-        format::variable(b, i as u16, wide(low), wide(high), wide(weight));
+        format::variable(b, i as u16, wide(low), wide(high), wide(weight(seed, i)));
         i += 1;
     }
 }
@@ -115,6 +114,15 @@ fn lowest(seed: u64, i: u8) -> u8 {
 fn width(seed: u64, i: u8) -> u8 {
     let x = draw(seed, 20 + i as u64, 16);
     if x == 0 { 0 } else { 1 + x % 7 }
+}
+
+// -5 to 5; in one job of four all are 0, so that all its fit-outs are equally good.
+fn weight(seed: u64, i: u8) -> u8 {
+    if draw(seed, 3, 4) == 0 {
+        0
+    } else {
+        sum(251, draw(seed, 50 + i as u64, 11), 0)
+    }
 }
 
 // One of the numbers, and the low where there is none.

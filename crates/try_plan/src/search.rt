@@ -236,8 +236,9 @@ fn worth(b: &Buffer, p: Part, list: u64) -> u64 {
 
 // ---- all lists in which the equations of a group hold, in their order: the number at the lowest variable decides first
 
-/// How many they are; the first, the second if there is one, and the last; whether it is as far from each to the next; the first of the
-/// best, what it is worth, and how many are worth as much; and the place of the one that was given beforehand.
+/// How many they are; the first, the second if there is one, and the last; whether it is as far from each to the next; the best, which
+/// is the last of those that are worth most, what it is worth, and how many are worth as much; and the place of the one that was given
+/// beforehand.
 struct Found {
     many: u32,
     first: u64,
@@ -282,17 +283,17 @@ fn all(b: &Buffer, p: Part) -> Found {
 impl Found {
     fn ranked(self, list: u64, worth: u64) -> Found {
         let mut f = self;
+        f.equals = 1;
         if 0 < self.many {
+            if is_less(worth, self.worth) {
+                return self;
+            }
             if self.worth == worth {
                 f.equals = std::num::wrapping_add_u32(self.equals, 1);
-            }
-            if !is_less(self.worth, worth) {
-                return f;
             }
         }
         f.best = list;
         f.worth = worth;
-        f.equals = 1;
         f
     }
 

@@ -9,4 +9,4 @@ variables-spec =
     tie.close
     (tie.spec (λ b₀ n seed i₀ b i. i ≤ n) (λ b₀ n seed i₀ b i. n - i) (search needs) (search needs) (search needs)
     (search needs) (search needs) (search needs) (search needs) (search needs) (search needs) (search needs)
-    (search needs) (search needs) (search needs) (search needs) (search needs) (search needs) (search needs))
+    (search needs) (search needs) (search needs) (search needs))
