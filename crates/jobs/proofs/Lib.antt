@@ -32,6 +32,9 @@ pub mod Numbering
 pub mod Assembly
 -- where the best stands among the solutions: `chosen-at`
 pub mod PlaceOfBest
+-- what no tie-break moves: bases, steps, fits, gains and worth are the same by any order among equals (`any-order`), and so by
+-- document 01's (`lower-first`)
+pub mod AnyTieBreak
 -- where the fields of a sheet stand, and that they read back (`laidOut-back`); findings that agree are laid out alike
 -- (`same-layout`)
 pub mod SheetFields
