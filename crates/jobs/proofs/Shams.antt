@@ -1,6 +1,6 @@
 -- Document 01, "Wrong plans on the frame": the sham planners, nearest to passing first, and of each that it breaks the demand that
--- is named beside it; and three more that break demand 2: components numbered from 1, two with one number, and a refusal for
--- everybody. Where a theorem is about one job, that job alone refuses the sham.
+-- is named beside it; three more that break demand 2: components numbered from 1, two with one number, and a refusal for everybody;
+-- and one that breaks demand 3: the lower number among equals. Where a theorem is about one job, that job alone refuses the sham.
 use mathlib.Core.Path.{_≡_, refl, sym, _∙_, ap}
 use mathlib.Core.Logic.{_≢_, ⊎-elim}
 use mathlib.Core.Option.{none, some, Option·none-ne-some, Option·some-injective}
@@ -44,16 +44,20 @@ oneCount = header 1 0 36 36 ++ count (plus 0) (plus 1) (plus 1)
 abbrev pub twoCounts : List ℕ
 twoCounts = header 2 0 48 48 ++ count (plus 0) (plus 1) (plus 1) ++ count (plus 0) (plus 1) (plus 1)
 
+-- 0..1, without a weight
+abbrev pub weightless : List ℕ
+weightless = header 1 0 36 36 ++ plain 1
+
 -- 0..1, and a second component of 0..3 and 0..3 with c1 − c2 = 1
 abbrev pub twoGroups : List ℕ
 twoGroups = header 3 1 60 80 ++ plain 1 ++ plain 3 ++ plain 3 ++ difference 1 2 1
 
 abbrev smallJobs : List (List ℕ)
-smallJobs = noCounts ∷ oneCount ∷ twoCounts ∷ twoGroups ∷ []
+smallJobs = noCounts ∷ oneCount ∷ twoCounts ∷ weightless ∷ twoGroups ∷ []
 
 -- what refuses a sham is the demand and not the job: the check accepts each of them, and each of its components has a fit-out
-small : (map checked smallJobs ≡ accepted ∷ accepted ∷ accepted ∷ accepted ∷ []) ×
-    (map (λ s. firstWithout (jobOf s)) smallJobs ≡ none ∷ none ∷ none ∷ none ∷ [])
+small : (map checked smallJobs ≡ accepted ∷ accepted ∷ accepted ∷ accepted ∷ accepted ∷ []) ×
+    (map (λ s. firstWithout (jobOf s)) smallJobs ≡ none ∷ none ∷ none ∷ none ∷ none ∷ [])
 unfolding checked firstWithout jobOf
 small = (refl, refl)
 
@@ -143,6 +147,11 @@ AtBase j after = (i : ℕ) → i < length (j .variables) → numberOn after i �
 pub always-the-base : (area after : List ℕ) (w : ℤ) → AtBase (jobOf oneCount) after → ¬ CannotBeBettered oneCount area (planned w) after
 unfolding jobOf unsigned table componentJob base best
 always-the-base area after w f d = one-not-zero (sym (numbers-are-fixed oneCount area after w d 0 (omega arith)) ∙ f 0 (omega arith))
+
+-- ---- one that takes the lower number among equals, as document 01 had it (demand 3)
+pub lower-number-first : (area after : List ℕ) (w : ℤ) → numberOn after 0 ≡ pos 0 → ¬ CannotBeBettered weightless area (planned w) after
+unfolding jobOf unsigned table best
+lower-number-first area after w e d = one-not-zero (sym (numbers-are-fixed weightless area after w d 0 (omega arith)) ∙ e)
 
 -- ---- "one that says planned and writes no sheet (demand 2)": whatever the job, unless the area as lent begins like a sheet
 pub no-sheet : (s area : List ℕ) (w : ℤ) → take 4 area ≢ answerMark → ¬ GivesFits s area (planned w) area
