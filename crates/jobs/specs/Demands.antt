@@ -123,7 +123,7 @@ pub record GivesFits (s area : List ℕ) (v : Verdict) (after : List ℕ) : Type
   pub no-fit : (l : ℕ) → v ≡ noFit l → NoneFits (jobOf s) l × (after ≡ area)
 
 -- ---- demand 3, the buyer: the numbers keep every tie and bound of the whole job, the worth shown is exactly theirs, and every
--- other solution of the job has less worth, or equal worth and comes later
+-- other solution of the job has less worth, or equal worth and comes later: where the two first differ it has the lower number
 pub record CannotBeBettered (s area : List ℕ) (v : Verdict) (after : List ℕ) : Type 0 where
   pub optimal : (w : ℤ) → v ≡ planned w → Optimal (jobOf s) (numbersOn (jobOf s) after)
   pub worth : (w : ℤ) → v ≡ planned w → w ≡ objective (jobOf s) (numbersOn (jobOf s) after)

@@ -7,9 +7,11 @@ use lib.ListN.{length, take}
 use lib.IntN.{ℤ, pos, _+ℤ_, _*ℤ_}
 use Rattle.lists.specs.Members.{_∈_}
 use Rattle.lists.specs.Table.{table}
+use Rattle.lists.specs.Lexicographic.{now, later}
 use Rattle.lists.proofs.Maps.{same-values}
 use Rattle.bytes.specs.LittleEndian.{u16, u32}
 use Rattle.jobs.specs.Job.{Job, jobOf}
+use Rattle.jobs.specs.TieBreak.{Earlier, earliestFirst}
 use Rattle.jobs.specs.Solution.{number, solutions, objective, best}
 use Rattle.jobs.specs.SheetOffsets.{groupRowsAt}
 use Rattle.jobs.specs.Component.{lowest, leads, componentCount, component}
@@ -307,6 +309,17 @@ computed = refl
 -- the definitions give what was worked out, at each of them
 pub worked : (v : Vector) → v ∈ vectors → (verdict (v .job) (v .area) ≡ v .verdict) × (sheet (v .job) (v .area) ≡ v .after)
 worked v h = let e = same-values given expected computed h in (ap (λ p. p .0) e, ap (λ p. p .1) e)
+
+-- ---- the tie-break, at lists of three
+abbrev three : ℕ → ℕ → ℕ → List ℤ
+three x y z = pos x ∷ pos y ∷ pos z ∷ []
+
+-- a higher number at count 0 comes first, whatever follows it; then at count 1
+higher-first : Earlier (three 2 0 0) (three 1 9 9) × Earlier (three 1 3 0) (three 1 2 9)
+higher-first = (now record { lt = tt }, later refl (now record { lt = tt }))
+
+in-its-order : earliestFirst (three 1 2 9 ∷ three 1 3 0 ∷ three 2 0 0 ∷ []) ≡ three 2 0 0 ∷ three 1 3 0 ∷ three 1 2 9 ∷ []
+in-its-order = refl
 
 -- ---- the demands' readings, tried on the same sheets
 record Reading : Type 0 where
