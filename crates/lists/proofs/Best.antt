@@ -129,11 +129,14 @@ module _ {A : Type 0} (value : A → ℤ) where
   anyhow [] = none
   anyhow (x ∷ xs) = more (λ y h. tt) (anyhow xs)
 
+  best-anyhow : (d : A) {xs : List A} {x : A} → x ∈ xs → Best value Anywhere xs (bestOf value d xs)
+  best-anyhow d {xs} = bestOf-best value (λ x y z r s. tt) d (anyhow xs)
+
+  pub bestOf-member : (d : A) {xs : List A} {x : A} → x ∈ xs → bestOf value d xs ∈ xs
+  bestOf-member d h = best-anyhow d h .member
+
   no-less : (d : A) {xs ys : List A} {x : A} → ((z : A) → z ∈ xs → z ∈ ys) → x ∈ xs → value (bestOf value d xs) ≤ℤ value (bestOf value d ys)
-  no-less d {xs} {ys} m h = at-most value (best ys (m _ h) .beats (bestOf value d xs) (m _ (best xs h .member)))
-    where
-      best : (zs : List A) {z : A} → z ∈ zs → Best value Anywhere zs (bestOf value d zs)
-      best zs = bestOf-best value (λ x y z r s. tt) d (anyhow zs)
+  no-less d {xs} m h = at-most value (best-anyhow d (m _ h) .beats (bestOf value d xs) (m _ (bestOf-member d h)))
 
   pub same-value : (d : A) {xs ys : List A} → ((z : A) → z ∈ xs ↔ z ∈ ys) → value (bestOf value d xs) ≡ value (bestOf value d ys)
   same-value d {xs = []} {ys = []} m = refl
