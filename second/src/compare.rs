@@ -65,8 +65,7 @@ struct Tally {
     /// planned, with two or more fits in a group of two or more counts; and in one of a hundred or more
     chosen: u64,
     chosen_large: u64,
-    /// planned, with a group in which equally good fit-outs are to choose from: one with a falling count, one with a weight, and two or
-    /// more such groups
+    /// planned, with equally good fit-outs in a group with a falling count; in one with a weight; in two or more groups
     equals: [u64; 3],
     different: u64,
 }
@@ -234,9 +233,10 @@ fn report(tally: &Tally, kind: Kind, seed: u64, jobs: u64) -> bool {
         Kind::Mixed => {
             let (chosen, large) = (tally.chosen, tally.chosen_large);
             println!("second: planned with a choice in a group of 2 or more counts: {chosen}; of 100 or more: {large}");
+            let [falling, weighed, groups] = tally.equals;
             println!(
-                "second: with equally good fit-outs in a group, a falling count, a weight, two such groups: {:?}",
-                tally.equals
+                "second: planned with equally good fit-outs in a group with a falling count: {falling}; \
+                 with a weight: {weighed}; in two or more groups: {groups}"
             );
         }
         Kind::Spoiled => println!("second: of 5 to 7 at the first row, at the last and between: {:?}", tally.rows),

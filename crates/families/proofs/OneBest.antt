@@ -1,9 +1,9 @@
 -- Where no tie-break has anything to decide: a component with a slope other than 0, or with one solution, has one solution of greatest
 -- objective. So by any order among equals it is the best, and its place the chosen k.
-use mathlib.Core.Path.{_≡_, refl, sym, _∙_, ap}
+use mathlib.Core.Path.{_≡_, sym, _∙_, ap}
 use mathlib.Core.Logic.{_↔_, _⊎_, inl, inr, _≢_}
 use Prim.Native.Nat.{ℕ, _≤_, _<_}
-use Rattle.ints.proofs.{ℤ, pos, _*ℤ_, List, [], _∷_, arith, lin, facts}
+use Rattle.ints.proofs.{ℤ, pos, List, [], _∷_, arith, lin, facts}
 use Rattle.ints.proofs.Products.{cancel}
 use Rattle.lists.specs.Members.{_∈_}
 use Rattle.lists.specs.Table.{table}
@@ -16,8 +16,8 @@ use Rattle.jobs.proofs.AnyTieBreak.{bestWith, any-order}
 use Rattle.families.specs.Family.{member, choice}
 use Rattle.families.proofs.BestOfComponent.{objective-member, member-solution, solution-member, choice-below, best-member}
 
--- two members of equal objective have one place
 module _ (c : Job) where
+  -- two members of equal objective have one place
   same-place : (slope c ≢ pos 0) ⊎ (fits c ≡ 1) → (i k : ℕ) → i < fits c → k < fits c → objective c (member c i) ≡ objective c (member c k) → i ≡ k
   same-place (inr one) i k h l q = omega arith
   same-place (inl s) i k h l q =

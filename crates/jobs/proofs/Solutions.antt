@@ -1,7 +1,7 @@
 -- The list `solutions j` has just the solutions of the job, in lexicographic order, and `best j` is the best of them: where
 -- there is a solution at all, it is one and better than every other, and no other is.
 use mathlib.Core.Path.{_≡_, refl, ap}
-use mathlib.Core.Logic.{_↔_, _⊎_, inl, inr, Iff·trans}
+use mathlib.Core.Logic.{_↔_, _⊎_, Iff·trans}
 use mathlib.Core.Bool.{Bool, true}
 use mathlib.Core.List.{map, List·Memᴰ·not-nil}
 use Prim.Native.Nat.{ℕ, zero, suc, _<_}
