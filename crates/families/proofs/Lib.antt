@@ -39,7 +39,8 @@ pub mod ModelIsExact
 -- the best of one component: the last of its family where the slope is 0 or more, and the first elsewhere (`choice-optimal`,
 -- `best-member`, `chosen-is`)
 pub mod BestOfComponent
--- a component with a slope other than 0, or with one solution, has one best, whatever the tie-break: `one-best`
+-- a component with a slope other than 0, or with one solution, has one best and one chosen k, whatever the tie-break: `one-best`,
+-- `one-choice`
 pub mod OneBest
 -- the best of each component, put together, is the best of the job: `objective-parts`, `assembled-optimal`, **`plan-optimal`**,
 -- `plan-best`; there is a solution exactly when no component is empty (`solvable-iff`)

@@ -6,11 +6,12 @@ use Prim.Native.Nat.{ℕ, _≤_, _<_}
 use Rattle.ints.proofs.{ℤ, pos, List, [], _∷_, arith, lin, facts}
 use Rattle.ints.proofs.Products.{cancel}
 use Rattle.lists.specs.Members.{_∈_}
+use Rattle.lists.specs.Keep.{place}
 use Rattle.lists.specs.Table.{table}
 use Rattle.lists.proofs.Best.{bestOf-member}
 use Rattle.jobs.specs.Job.{Job}
 use Rattle.jobs.specs.Solution.{solutions, objective, best}
-use Rattle.jobs.specs.Family.{fits, base, slope}
+use Rattle.jobs.specs.Family.{fits, base, agree, chosen, slope}
 use Rattle.jobs.proofs.Solutions.{in-solutions}
 use Rattle.jobs.proofs.AnyTieBreak.{bestWith, any-order}
 use Rattle.families.specs.Family.{member, choice}
@@ -36,3 +37,8 @@ module _ (c : Job) where
         let b = best-member c e some in
         q ∙ ap (member c) (same-place d k (choice (slope c) (fits c)) h (choice-below (slope c) (fits c) some)
         (ap (objective c) (sym q) ∙ any-order order all c .objective ∙ ap (objective c) b)) ∙ sym b
+
+    -- and so the chosen k is that of today's order
+    pub one-choice : (slope c ≢ pos 0) ⊎ (fits c ≡ 1) → place (agree (bestWith order c)) (solutions c) ≡ chosen c
+    unfolding chosen
+    one-choice d = ap (λ x. place (agree x) (solutions c)) (one-best d)

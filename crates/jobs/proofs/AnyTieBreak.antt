@@ -1,5 +1,6 @@
 -- What no tie-break moves. Whichever of equally good solutions comes first, by document 01 or 02 or any other order, a sheet of the job has
--- the same groups, bases, steps, fits, gains and worth; only the chosen k, and so the numbers, go by it.
+-- the same groups, bases, steps, fits, gains and worth; only the chosen k, and so the numbers, go by it. Of these the worth is what there
+-- is to prove: no definition of the others names an order.
 use mathlib.Core.Path.{_≡_, refl}
 use mathlib.Core.Logic.{_↔_, Iff·trans, Iff·symm}
 use lib.ListN.{length}
