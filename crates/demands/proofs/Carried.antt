@@ -1,23 +1,28 @@
--- A demand is carried over from the planner's verdict and area to those of a variant that changes neither.
+-- A demand is carried over from the planner's verdict and areas to those of a variant that changes neither.
 use mathlib.Core.Path.{_≡_, sym, _∙_, ap, subst}
 use mathlib.Core.Bool.{Bool, true, false, cond, _&&_}
 use mathlib.Core.List.{List}
 use Prim.Native.Nat.{ℕ, _<_}
 use lib.ListN.{length, getD, set}
 use lib.Seq.{set-getD}
+use Rattle.jobs.specs.Call.{Areas, Call, areasOf}
 use Rattle.jobs.specs.Verdict.{Verdict, refused, verdict}
-use Rattle.jobs.specs.Sheet.{sheet}
+use Rattle.jobs.specs.AreasAfter.{areasAfter}
 use Rattle.jobs.proofs.Outcomes.{no-header}
 use Rattle.planner.specs.declared.Outcome.{Outcome}
 use Rattle.planner.specs.Outcome.{verdictOf}
 
 -- a job without a whole header, turned away by reason 1
-pub turned-early : (P : Verdict → List ℕ → Type 0) (s area : List ℕ) → length s < 24 → P (verdict s area) (sheet s area) → P (refused 1 0) area
-turned-early P s area h p = let (v, a) = no-header s area h in subst (λ v. P v area) v (subst (P (verdict s area)) a p)
+pub turned-early : (P : Verdict → Areas → Type 0) (c : Call) → length (c .job) < 24 → P (verdict c) (areasAfter c) → P (refused 1 0) (c .lent)
+turned-early P c h p = let (v, a) = no-header c h in subst (λ v. P v (c .lent)) v (subst (P (verdict c)) a p)
 
--- an answer taken apart and made again, and the area as it was
-pub passed-on : (P : Verdict → List ℕ → Type 0) {r t : Outcome} {after later : List ℕ} → P (verdictOf r) after → r ≡ t → later ≡ after → P (verdictOf t) later
-passed-on P {r} {t} {after} {later} p e q = subst (λ t. P (verdictOf t) later) e (subst (P (verdictOf r)) (sym q) p)
+-- an answer taken apart and made again, and the areas as they were
+pub passed-on : (P : Verdict → Areas → Type 0) {r t : Outcome} {x : Areas} → P (verdictOf r) x → r ≡ t → P (verdictOf t) x
+passed-on P {r} {t} {x} p e = subst (λ t. P (verdictOf t) x) e p
+
+-- an area that is as it was
+pub as-it-was : (P : Areas → Type 0) {after later : List ℕ} → P (areasOf after) → later ≡ after → P (areasOf later)
+as-it-was P p e = subst (λ area. P (areasOf area)) (sym e) p
 
 -- a test of a byte of the sheet, where there is one
 pub by-byte : {p : Bool} (test : ℕ → Bool) (x y : ℕ) → p ≡ true → x ≡ y → test x ≡ p && test y

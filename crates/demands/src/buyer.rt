@@ -1,5 +1,6 @@
 //! The buyer.
 
+ghost use Rattle.jobs.specs.Call.{areasOf, callOf};
 ghost use Rattle.jobs.specs.Demands.{CannotBeBettered};
 ghost use Rattle.planner.specs.Outcome.{verdictOf};
 use crate::rewrite;
@@ -7,14 +8,14 @@ use planner::Outcome;
 
 /// Plans a job: any bytes, and any answer area.
 pub fn plan(job: &[u8], area: &mut [u8]) -> Outcome
-    ensures { λ r. ⌜ CannotBeBettered (now (job .entry)) (now (area .entry)) (verdictOf r) (now (area .exit)) ⌝ }
+    ensures { λ r. ⌜ CannotBeBettered (callOf (now (job .entry)) (areasOf (now (area .entry)))) (verdictOf r) (areasOf (now (area .exit))) ⌝ }
 {
     planner::plan(job, area)
 }
 
 // Bytes of a sheet are written again: the number of count 0, and that of count 1 in a group apart from it.
 fn plan_rewritten(job: &[u8], area: &mut [u8]) -> Outcome
-    ensures { λ r. ⌜ CannotBeBettered (now (job .entry)) (now (area .entry)) (verdictOf r) (now (area .exit)) ⌝ }
+    ensures { λ r. ⌜ CannotBeBettered (callOf (now (job .entry)) (areasOf (now (area .entry)))) (verdictOf r) (areasOf (now (area .exit))) ⌝ }
 {
     let low = rewrite::get(job, 36);
     let outcome = planner::plan(job, area);

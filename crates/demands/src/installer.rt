@@ -1,5 +1,6 @@
 //! The installer.
 
+ghost use Rattle.jobs.specs.Call.{areasOf, callOf};
 ghost use Rattle.jobs.specs.Demands.{GivesFits};
 ghost use Rattle.planner.specs.Outcome.{verdictOf};
 use crate::rewrite;
@@ -8,14 +9,14 @@ use reasons::Reason;
 
 /// Plans a job: any bytes, and any answer area.
 pub fn plan(job: &[u8], area: &mut [u8]) -> Outcome
-    ensures { λ r. ⌜ GivesFits (now (job .entry)) (now (area .entry)) (verdictOf r) (now (area .exit)) ⌝ }
+    ensures { λ r. ⌜ GivesFits (callOf (now (job .entry)) (areasOf (now (area .entry)))) (verdictOf r) (areasOf (now (area .exit))) ⌝ }
 {
     planner::plan(job, area)
 }
 
 // A job without a whole header is turned away before the planner is asked.
 fn plan_early(job: &[u8], area: &mut [u8]) -> Outcome
-    ensures { λ r. ⌜ GivesFits (now (job .entry)) (now (area .entry)) (verdictOf r) (now (area .exit)) ⌝ }
+    ensures { λ r. ⌜ GivesFits (callOf (now (job .entry)) (areasOf (now (area .entry)))) (verdictOf r) (areasOf (now (area .exit))) ⌝ }
 {
     if job.len() < 24 {
         return Outcome::Refused(Reason::ShortJob);
@@ -25,7 +26,7 @@ fn plan_early(job: &[u8], area: &mut [u8]) -> Outcome
 
 // Another job is planned first, into another area.
 fn plan_second(job: &[u8], area: &mut [u8], first: &[u8], other: &mut [u8]) -> Outcome
-    ensures { λ r. ⌜ GivesFits (now (job .entry)) (now (area .entry)) (verdictOf r) (now (area .exit)) ⌝ }
+    ensures { λ r. ⌜ GivesFits (callOf (now (job .entry)) (areasOf (now (area .entry)))) (verdictOf r) (areasOf (now (area .exit))) ⌝ }
 {
     planner::plan(first, other);
     let last = planner::plan(job, area);
@@ -34,7 +35,7 @@ fn plan_second(job: &[u8], area: &mut [u8], first: &[u8], other: &mut [u8]) -> O
 
 // The answer is taken apart and made again.
 fn plan_passed_on(job: &[u8], area: &mut [u8]) -> Outcome
-    ensures { λ r. ⌜ GivesFits (now (job .entry)) (now (area .entry)) (verdictOf r) (now (area .exit)) ⌝ }
+    ensures { λ r. ⌜ GivesFits (callOf (now (job .entry)) (areasOf (now (area .entry)))) (verdictOf r) (areasOf (now (area .exit))) ⌝ }
 {
     let outcome = planner::plan(job, area);
     match outcome {
@@ -46,7 +47,7 @@ fn plan_passed_on(job: &[u8], area: &mut [u8]) -> Outcome
 
 // Bytes of the sheet of one count are written again: its group and its fits.
 fn plan_single(job: &[u8], area: &mut [u8]) -> Outcome
-    ensures { λ r. ⌜ GivesFits (now (job .entry)) (now (area .entry)) (verdictOf r) (now (area .exit)) ⌝ }
+    ensures { λ r. ⌜ GivesFits (callOf (now (job .entry)) (areasOf (now (area .entry)))) (verdictOf r) (areasOf (now (area .exit))) ⌝ }
 {
     let outcome = planner::plan(job, area);
     let single = rewrite::is_single(outcome, area);
@@ -59,7 +60,7 @@ fn plan_single(job: &[u8], area: &mut [u8]) -> Outcome
 
 // Bytes of count 1, in a group apart from count 0, are written again: its number and its group.
 fn plan_apart(job: &[u8], area: &mut [u8]) -> Outcome
-    ensures { λ r. ⌜ GivesFits (now (job .entry)) (now (area .entry)) (verdictOf r) (now (area .exit)) ⌝ }
+    ensures { λ r. ⌜ GivesFits (callOf (now (job .entry)) (areasOf (now (area .entry)))) (verdictOf r) (areasOf (now (area .exit))) ⌝ }
 {
     let low = rewrite::get(job, 36);
     let outcome = planner::plan(job, area);

@@ -2,71 +2,75 @@
 -- that is lent. The definitions search, and one of these jobs has two thousand million fit-outs; so what is computed, once for
 -- the whole table, is the model, which gives the same.
 use mathlib.Core.Path.{_≡_, refl, sym, _∙_, ap}
-use mathlib.Core.Option.{none}
-use mathlib.Core.List.{List, [], _++_, map}
-use Prim.Native.Nat.{ℕ, _≤_, _<_}
-use native.Mathlib.Omega.{arith}
-use lib.ListN.{length, drop}
+use mathlib.Core.Option.{Option, none, some}
+use mathlib.Core.List.{List, [], map}
+use Prim.Native.Nat.{ℕ}
 use Rattle.lists.specs.Members.{_∈_}
 use Rattle.lists.proofs.Maps.{same-values}
+use Rattle.jobs.specs.Call.{Areas, Call, callOf, onLent}
 use Rattle.jobs.specs.Job.{Job, jobOf}
 use Rattle.jobs.specs.SheetOffsets.{sheetLength}
 use Rattle.jobs.specs.Faults.{Answer, accepted, checked}
 use Rattle.jobs.specs.Findings.{Findings}
-use Rattle.jobs.specs.Verdict.{Verdict, planned, noFit, refused, outcome, short?, verdict}
+use Rattle.jobs.specs.ReasonTable.{Shorter}
+use Rattle.jobs.specs.Verdict.{Verdict, planned, noFit, refused, outcome, verdict}
 use Rattle.jobs.specs.SheetLayout.{laidOut}
-use Rattle.jobs.specs.Sheet.{areaAfter, sheet}
+use Rattle.jobs.specs.AreasAfter.{atFront, sheetAfter, areasAfter}
 use Rattle.jobs.proofs.Faults.{accepted-none, fault-none}
 use Rattle.jobs.proofs.Outcomes.{too-short}
-use Rattle.families.specs.ModelFindings.{modelFindings, modelEmpty, verdictBy, sheetBy}
-use Rattle.families.specs.Vectors.{Worked, after, markedJobs}
-use Rattle.families.proofs.ModelFindings.{verdict-by, sheet-by}
+use Rattle.families.specs.ModelFindings.{modelFindings, modelEmpty, verdictBy, modelAreas}
+use Rattle.families.specs.Vectors.{Worked, markedJobs}
+use Rattle.families.proofs.ModelFindings.{verdict-by, areas-by}
 
 -- ---- of any bytes that the job check accepts
--- what is written, by the verdict
-abbrev bytesFor : Verdict → List ℕ → List ℕ
-bytesFor (planned worth) laid = laid
-bytesFor (noFit l) laid = []
-bytesFor (refused reason row) laid = []
+-- the sheet, by the verdict
+abbrev sheetFor : Verdict → List ℕ → List ℕ
+sheetFor (planned worth) laid = laid
+sheetFor (noFit l) laid = []
+sheetFor (refused reason row) laid = []
 
-after-is : (v : Verdict) (f : Findings) (area : List ℕ) → areaAfter f v area ≡ bytesFor v (laidOut f) ++ drop (length (bytesFor v (laidOut f))) area
-unfolding areaAfter
-after-is (planned worth) f area = refl
-after-is (noFit l) f area = refl
-after-is (refused reason row) f area = refl
+sheet-is : (v : Verdict) (f : Findings) (o : Option (List ℕ)) → onLent (sheetAfter f v) o ≡ onLent (atFront (sheetFor v (laidOut f))) o
+unfolding sheetAfter
+sheet-is (planned worth) f (some area) = refl
+sheet-is (noFit l) f (some area) = refl
+sheet-is (refused reason row) f (some area) = refl
+sheet-is v f none = refl
 
 module _ (s : List ℕ) where
   abbrev j : Job
   j = jobOf s
 
-  -- what the model gives where the area is long enough, whatever stands in it
+  -- what the model gives where every area is long enough, whatever stands in it
   abbrev modelVerdict : Verdict
   modelVerdict = outcome none (modelEmpty j) (modelFindings j .objective)
 
-  abbrev modelBytes : List ℕ
-  modelBytes = bytesFor modelVerdict (laidOut (modelFindings j))
+  abbrev modelSheet : List ℕ
+  modelSheet = sheetFor modelVerdict (laidOut (modelFindings j))
 
-  module _ (ok : checked s ≡ accepted) (area : List ℕ) where
-    by-model : sheetLength j ≤ length area → verdictBy s area ≡ modelVerdict
+  module _ (ok : checked s ≡ accepted) (lent : Areas) where
+    abbrev c : Call
+    c = callOf s lent
+
+    by-model : ¬ Shorter (lent .sheet) (sheetLength j) → verdictBy c ≡ modelVerdict
     unfolding verdictBy
-    by-model h = ap (λ o. outcome o (modelEmpty j) (modelFindings j .objective)) (fault-none s (short? j area) (accepted-none s ok) (λ l. omega arith))
+    by-model h = ap (λ o. outcome o (modelEmpty j) (modelFindings j .objective)) (fault-none c (accepted-none s ok) h)
 
-    long-enough : sheetLength j ≤ length area → (verdict s area ≡ modelVerdict) × (sheet s area ≡ modelBytes ++ drop (length modelBytes) area)
-    unfolding sheetBy
+    long-enough : ¬ Shorter (lent .sheet) (sheetLength j) → (verdict c ≡ modelVerdict) × (areasAfter c .sheet ≡ onLent (atFront modelSheet) (lent .sheet))
+    unfolding modelAreas
     long-enough h = (
-      sym (verdict-by s area) ∙ by-model h,
-      sym (sheet-by s area) ∙ ap (λ v. areaAfter (modelFindings j) v area) (by-model h) ∙ after-is modelVerdict (modelFindings j) area,
+      sym (verdict-by c) ∙ by-model h,
+      ap (λ x. x .sheet) (sym (areas-by c)) ∙ ap (λ v. onLent (sheetAfter (modelFindings j) v) (lent .sheet)) (by-model h) ∙ sheet-is modelVerdict (modelFindings j) (lent .sheet),
     )
 
 -- ---- of the ten
 abbrev given : Worked → (Answer × ℕ) × (Verdict × List ℕ)
-given v = let s = v .job in ((checked s, sheetLength (jobOf s)), (modelVerdict s, modelBytes s))
+given v = let s = v .job in ((checked s, sheetLength (jobOf s)), (modelVerdict s, modelSheet s))
 
 abbrev expected : Worked → (Answer × ℕ) × (Verdict × List ℕ)
 expected v = ((accepted, v .room), (v .verdict, v .sheet))
 
 marked-computed : map given markedJobs ≡ map expected markedJobs
-unfolding checked sheetBy
+unfolding checked modelAreas
 marked-computed = refl
 
 same : (v : Worked) → v ∈ markedJobs → given v ≡ expected v
@@ -79,14 +83,14 @@ accepts v m = ap (λ p. p .0 .0) (same v m)
 pub marked-room : (v : Worked) → v ∈ markedJobs → sheetLength (jobOf (v .job)) ≡ v .room
 marked-room v m = ap (λ p. p .0 .1) (same v m)
 
--- **the ten jobs**, in any area that is long enough
-pub marked-jobs : (v : Worked) → v ∈ markedJobs → (area : List ℕ) → sheetLength (jobOf (v .job)) ≤ length area →
-    (verdict (v .job) area ≡ v .verdict) × (sheet (v .job) area ≡ after v area)
-marked-jobs v m area h =
-    let (e, f) = long-enough (v .job) (accepts v m) area h in
-    (e ∙ ap (λ p. p .1 .0) (same v m), f ∙ ap (λ p. p .1 .1 ++ drop (length (p .1 .1)) area) (same v m))
+-- **the ten jobs**, whatever is lent that is long enough
+pub marked-jobs : (v : Worked) → v ∈ markedJobs → (lent : Areas) → ¬ Shorter (lent .sheet) (sheetLength (jobOf (v .job))) →
+    (verdict (callOf (v .job) lent) ≡ v .verdict) × (areasAfter (callOf (v .job) lent) .sheet ≡ onLent (atFront (v .sheet)) (lent .sheet))
+marked-jobs v m lent h =
+    let (e, f) = long-enough (v .job) (accepts v m) lent h in
+    (e ∙ ap (λ p. p .1 .0) (same v m), f ∙ ap (λ p. onLent (atFront (p .1 .1)) (lent .sheet)) (same v m))
 
--- and in any that is shorter, also where there is no fit
-pub marked-short : (v : Worked) → v ∈ markedJobs → (area : List ℕ) → length area < sheetLength (jobOf (v .job)) →
-    (verdict (v .job) area ≡ refused 8 0) × (sheet (v .job) area ≡ area)
-marked-short v m area h = too-short (v .job) area (accepts v m) h
+-- and with an answer area that is shorter, also where there is no fit
+pub marked-short : (v : Worked) → v ∈ markedJobs → (lent : Areas) → Shorter (lent .sheet) (sheetLength (jobOf (v .job))) →
+    (verdict (callOf (v .job) lent) ≡ refused 8 0) × (areasAfter (callOf (v .job) lent) ≡ lent)
+marked-short v m lent h = too-short (callOf (v .job) lent) (accepts v m) h

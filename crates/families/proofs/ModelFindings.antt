@@ -1,13 +1,13 @@
 -- The planner's last steps are the definitions: where each variable's label and run are those of the definitions, so are the
--- choices, the objective and all that is found; and the model's own verdict and sheet are `verdict` and `sheet`.
+-- choices, the objective and all that is found; and the model's own verdict and areas are `verdict` and `areasAfter`.
 use mathlib.Core.Path.{_≡_, refl, sym, _∙_, ap, ap₂, subst}
 use mathlib.Core.Logic.{_≢_}
 use mathlib.Core.Bool.{Bool, true, false}
 use mathlib.Core.Option.{Option, none, some}
-use mathlib.Core.List.{List, _++_}
+use mathlib.Core.List.{List}
 use Prim.Native.Nat.{ℕ, _*_, _<_}
 use lib.Dec.{eqb, ltb}
-use lib.ListN.{length, drop}
+use lib.ListN.{length}
 use Rattle.reasons.specs.declared.Reason.{Reason}
 use Rattle.ints.specs.Within.{Within}
 use Rattle.ints.proofs.{ℤ, pos, _+ℤ_, _*ℤ_, within-mul, arith}
@@ -22,23 +22,26 @@ use Rattle.runs.specs.declared.Run.{Run}
 use Rattle.runs.specs.Run.{bound}
 use Rattle.families.specs.FamilyRun.{FamilyRun}
 use Rattle.jobs.specs.Decide.{equal?, firstOf}
+use Rattle.jobs.specs.Call.{Areas, Call, onLent}
 use Rattle.jobs.specs.Job.{Job, jobOf, variable}
 use Rattle.jobs.specs.Solution.{number, objective, best}
 use Rattle.jobs.specs.Component.{lowest, leads, component}
 use Rattle.jobs.specs.Family.{componentJob, fits, step, chosen, slope, familyRun}
+use Rattle.jobs.specs.Faults.{firstBroken}
 use Rattle.jobs.specs.Verdict.{Verdict, planned, noFit, refused, firstWithout, outcome, verdict}
 use Rattle.jobs.specs.Findings.{findings}
 use Rattle.jobs.specs.SheetLayout.{laidOut}
-use Rattle.jobs.specs.Sheet.{areaAfter, sheet}
+use Rattle.jobs.specs.AreasAfter.{atFront, sheetAfter, areasBy, areasAfter}
 use Rattle.jobs.proofs.FirstOf.{first-same}
 use Rattle.jobs.specs.Lawful.{LawfulJob}
 use Rattle.jobs.proofs.Components.{in-leads, lead-in}
 use Rattle.jobs.proofs.Assembly.{none-without}
-use Rattle.jobs.proofs.SheetFields.{Agree, same-layout, if-planned, if-noFit, if-refused}
-use Rattle.jobs.proofs.DemandsHold.{fault, verdict-is, planned-when, lawful-of}
+use Rattle.jobs.proofs.SheetFields.{Agree, same-layout}
+use Rattle.jobs.proofs.AreasAfter.{by}
+use Rattle.jobs.proofs.DemandsHold.{verdict-is, planned-when, lawful-of}
 use Rattle.families.specs.Family.{choice}
 use Rattle.families.specs.Model.{labelAt, runAt, stateAfterAll}
-use Rattle.families.specs.ModelFindings.{leadsBy, componentBy, emptyBy, slopeBy, chosenBy, numberBy, objectiveBy, findingsBy, modelFindings, modelEmpty, verdictBy, sheetBy}
+use Rattle.families.specs.ModelFindings.{leadsBy, componentBy, emptyBy, slopeBy, chosenBy, numberBy, objectiveBy, findingsBy, modelFindings, modelEmpty, verdictBy, modelAreas}
 use Rattle.families.proofs.FamilySizes.{step-within}
 use Rattle.families.proofs.ModelIsExact.{readOff, family-run-is, exact, family-form}
 use Rattle.families.proofs.BestOfJob.{objective-own}
@@ -148,28 +151,28 @@ same-outcome none {e} {k} {w} {z} f = ap (λ e. outcome none e w) (f refl .0) �
     go none q = ap planned (q refl)
     go (some l) q = refl
 
-module _ (s area : List ℕ) where
+module _ (c : Call) where
   abbrev j : Job
-  j = jobOf s
+  j = jobOf (c .job)
 
-  pub verdict-by : verdictBy s area ≡ verdict s area
+  pub verdict-by : verdictBy c ≡ verdict c
   unfolding verdictBy
-  verdict-by = same-outcome (fault s area) cases ∙ sym (verdict-is s area)
+  verdict-by = same-outcome (firstBroken c) cases ∙ sym (verdict-is c)
     where
-      cases : fault s area ≡ none → (modelEmpty j ≡ firstWithout j) × (firstWithout j ≡ none → modelFindings j .objective ≡ objective j (best j))
-      cases e = let f = lawful-of s area e in (empty-by j f (labelAt (stateAfterAll j)) (runAt (stateAfterAll j)) (exact j f), objective-by j f (labelAt (stateAfterAll j)) (runAt (stateAfterAll j)) (exact j f) _ (λ i h. refl))
+      cases : firstBroken c ≡ none → (modelEmpty j ≡ firstWithout j) × (firstWithout j ≡ none → modelFindings j .objective ≡ objective j (best j))
+      cases e = let f = lawful-of c e in (empty-by j f (labelAt (stateAfterAll j)) (runAt (stateAfterAll j)) (exact j f), objective-by j f (labelAt (stateAfterAll j)) (runAt (stateAfterAll j)) (exact j f) _ (λ i h. refl))
 
-  pub sheet-by : sheetBy s area ≡ sheet s area
-  unfolding sheetBy areaAfter
-  sheet-by = ap (λ v. areaAfter (modelFindings j) v area) verdict-by ∙ go (verdict s area) refl
+  pub areas-by : modelAreas c ≡ areasAfter c
+  unfolding modelAreas sheetAfter
+  areas-by = ap (λ v. areasBy (modelFindings j) v (c .lent)) verdict-by ∙ go (verdict c) refl ∙ sym (by c refl)
     where
-      laid : (w : ℤ) → verdict s area ≡ planned w → laidOut (modelFindings j) ≡ laidOut (findings j)
+      laid : (w : ℤ) → verdict c ≡ planned w → laidOut (modelFindings j) ≡ laidOut (findings j)
       laid w e =
-          let (o, h) = planned-when s area w e in
-          let f = lawful-of s area o in
+          let (o, h) = planned-when c w e in
+          let f = lawful-of c o in
           same-layout (findings-by j f (labelAt (stateAfterAll j)) (runAt (stateAfterAll j)) (exact j f) _ (λ i h. refl) (h .0))
 
-      go : (v : Verdict) → verdict s area ≡ v → areaAfter (modelFindings j) v area ≡ sheet s area
-      go (planned w) e = ap (λ t. t ++ drop (length t) area) (laid w e) ∙ sym (if-planned s area e)
-      go (noFit l) e = sym (if-noFit s area e)
-      go (refused reason row) e = sym (if-refused s area e)
+      go : (v : Verdict) → verdict c ≡ v → areasBy (modelFindings j) v (c .lent) ≡ areasBy (findings j) v (c .lent)
+      go (planned w) e = ap (λ t. record { sheet = onLent (atFront t) (c .lent .sheet) }) (laid w e)
+      go (noFit l) e = refl
+      go (refused reason row) e = refl

@@ -8,7 +8,7 @@ use mathlib.Core.List.{List, _++_}
 use Prim.Native.Nat.{ℕ, _*_, _≤_, _<_}
 use native.Mathlib.Decide.{ℕ-discrete}
 use lib.Dec.{eqb}
-use lib.ListN.{length, getD, drop}
+use lib.ListN.{length, getD}
 use borrow.Author.Tests.{eq-eqb, ne-eqb}
 use Rattle.ints.proofs.{ℤ, pos, _+ℤ_, _*ℤ_, _<ℤ_, arith}
 use Rattle.lists.specs.Members.{_∈_}
@@ -16,6 +16,7 @@ use Rattle.lists.proofs.Table.{table-at, same-table}
 use Rattle.runs.specs.Run.{bound}
 use Rattle.families.specs.FamilyRun.{FamilyRun}
 use Rattle.bytes.specs.LittleEndian.{u16}
+use Rattle.jobs.specs.Call.{Call}
 use Rattle.jobs.specs.Job.{Job, jobOf}
 use Rattle.jobs.specs.Solution.{number, IsSolution, objective, best}
 use Rattle.jobs.specs.Component.{lowest, leads, component}
@@ -23,14 +24,14 @@ use Rattle.jobs.specs.Family.{componentJob, fits, base, step, chosen, slope, fa
 use Rattle.jobs.specs.Verdict.{planned, firstWithout, verdict}
 use Rattle.jobs.specs.Findings.{findings}
 use Rattle.jobs.specs.SheetLayout.{laidOut}
-use Rattle.jobs.specs.Sheet.{sheet}
+use Rattle.jobs.specs.AreasAfter.{areasAfter}
 use Rattle.jobs.specs.Demands.{numberOn, baseOn, stepOn, groupOn, fitsOn, chosenOn, gainOn, partOn, memberOn, SolvesGroup, FamilyOn, FamiliesOn, GivesFits}
 use Rattle.jobs.specs.Lawful.{LawfulJob}
 use Rattle.jobs.proofs.Components.{in-leads, lead-in, lowest-self, joined-iff, component-iff, component-below, component-lead}
 use Rattle.jobs.proofs.Numbering.{lead-iff, group-is}
 use Rattle.jobs.proofs.Assembly.{none-without, component-length, outside-zero, solves-iff}
 use Rattle.bytes.proofs.TwosComplement.{within-fits}
-use Rattle.jobs.proofs.SheetFields.{number-back, base-back, step-back, fits-back, chosen-back, gain-back, laidOut-back, if-planned}
+use Rattle.jobs.proofs.SheetFields.{number-back, base-back, step-back, fits-back, chosen-back, gain-back, laidOut-back}
 use Rattle.jobs.proofs.DemandsHold.{optimal-best, number-within, planned-when, lawful-of, gives-fits}
 use Rattle.families.specs.Family.{member, IsFamily}
 use Rattle.families.proofs.FamilySizes.{first-within, step-within, many-within}
@@ -209,12 +210,10 @@ module _ (j : Job) (lawful : LawfulJob j) (full : firstWithout j ≡ none) (rest
           ∙ sym (ap₂ (λ u v. u +ℤ v *ℤ pos (chosenOn j after (groupOn after i))) (base-on i h) (step-on i h)
           ∙ ap (λ k. number (base (own i)) i +ℤ number (step (own i)) i *ℤ pos k) (chosen-on i h))
 
--- ---- so of any bytes
-module _ (s area : List ℕ) where
-  pub families-on : (w : ℤ) → verdict s area ≡ planned w → FamiliesOn (jobOf s) (sheet s area)
-  families-on w e =
-      let (o, h) = planned-when s area w e in
-      subst (FamiliesOn (jobOf s)) (sym (if-planned s area e)) (families-laid (jobOf s) (lawful-of s area o) (h .0) (drop (length (laidOut (findings (jobOf s)))) area))
+-- ---- so of any call
+module _ (c : Call) where
+  families-on : (w : ℤ) → verdict c ≡ planned w → (rest : List ℕ) → FamiliesOn (jobOf (c .job)) (laidOut (findings (jobOf (c .job))) ++ rest)
+  families-on w e = let (o, h) = planned-when c w e in families-laid (jobOf (c .job)) (lawful-of c o) (h .0)
 
-  pub definitions-give-fits : GivesFits s area (verdict s area) (sheet s area)
-  definitions-give-fits = gives-fits s area families-on
+  pub definitions-give-fits : GivesFits c (verdict c) (areasAfter c)
+  definitions-give-fits = gives-fits c families-on

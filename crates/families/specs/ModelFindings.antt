@@ -1,6 +1,6 @@
 -- The planner's last steps as functions on lists: the choice in each component and the objective, from what is known of each
 -- variable, and so the model's findings. Like the model of the families they compute, and nothing here has to be believed:
--- proofs/ModelFindings.antt shows that they give `verdict` and `sheet`.
+-- proofs/ModelFindings.antt shows that they give `verdict` and `areasAfter`.
 use mathlib.Core.Option.{Option}
 use mathlib.Core.List.{List}
 use Prim.Native.Nat.{ℕ}
@@ -12,12 +12,13 @@ use Rattle.lists.specs.Sums.{sum, sumOf}
 use Rattle.lists.specs.Table.{table, upTo}
 use Rattle.runs.specs.declared.Run.{Run}
 use Rattle.jobs.specs.Decide.{equal?, firstOf}
+use Rattle.jobs.specs.Call.{Areas, Call}
 use Rattle.jobs.specs.Job.{Job, jobOf, variable}
 use Rattle.jobs.specs.Component.{leads}
 use Rattle.jobs.specs.Findings.{Findings}
 use Rattle.jobs.specs.Faults.{firstBroken}
-use Rattle.jobs.specs.Verdict.{Verdict, outcome, short?}
-use Rattle.jobs.specs.Sheet.{areaAfter}
+use Rattle.jobs.specs.Verdict.{Verdict, outcome}
+use Rattle.jobs.specs.AreasAfter.{sheetAfter, areasBy}
 use Rattle.families.specs.Family.{choice}
 use Rattle.families.specs.Model.{labelAt, runAt, stateAfterAll}
 
@@ -74,11 +75,11 @@ modelFindings j = let t = stateAfterAll j in findingsBy (length (j .variables)) 
 abbrev pub modelEmpty : Job → Option ℕ
 modelEmpty j = let t = stateAfterAll j in emptyBy (length (j .variables)) (labelAt t) (runAt t)
 
--- of the bytes of a job and the area as lent
-unfoldable pub verdictBy : List ℕ → List ℕ → Verdict
+-- of all that a call is given
+unfoldable pub verdictBy : Call → Verdict
 unfolding firstBroken jobOf leads stateAfterAll emptyBy objectiveBy
-verdictBy s area = let j = jobOf s in outcome (firstBroken (short? j area) s) (modelEmpty j) (modelFindings j .objective)
+verdictBy c = let j = jobOf (c .job) in outcome (firstBroken c) (modelEmpty j) (modelFindings j .objective)
 
-unfoldable pub sheetBy : List ℕ → List ℕ → List ℕ
-unfolding jobOf stateAfterAll verdictBy areaAfter leadsBy componentBy slopeBy chosenBy numberBy objectiveBy
-sheetBy s area = areaAfter (modelFindings (jobOf s)) (verdictBy s area) area
+unfoldable pub modelAreas : Call → Areas
+unfolding jobOf stateAfterAll verdictBy sheetAfter leadsBy componentBy slopeBy chosenBy numberBy objectiveBy
+modelAreas c = areasBy (modelFindings (jobOf (c .job))) (verdictBy c) (c .lent)

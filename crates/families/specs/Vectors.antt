@@ -6,7 +6,7 @@ use mathlib.Core.Option.{Option, none, some}
 use mathlib.Core.List.{List, [], _∷_, _++_, map}
 use Prim.Native.Nat.{ℕ, _+_, _*_}
 use lib.Dec.{eqb}
-use lib.ListN.{length, drop}
+use lib.ListN.{length}
 use lib.IntN.{ℤ, pos, negℤ}
 use Rattle.ints.specs.Floor.{floorDiv, floorMod}
 use Rattle.lists.specs.Members.{_∈_}
@@ -43,10 +43,6 @@ pub record Worked : Type 0 where
   pub room : ℕ
   pub verdict : Verdict
   pub sheet : List ℕ
-
--- what stands in the area afterwards: those bytes, and behind them what stood there before
-abbrev pub after : Worked → List ℕ → List ℕ
-after v area = v .sheet ++ drop (length (v .sheet)) area
 
 abbrev jobM : List ℕ
 jobM =

@@ -1,7 +1,7 @@
--- What the definitions `verdict` and `sheet` keep of the demands: the first and the third, and of the second all but the
+-- What the definitions `verdict` and `areasAfter` keep of the demands: the first and the third, and of the second all but the
 -- families of a planned sheet, `FamiliesOn`.
 use mathlib.Core.Path.{_≡_, refl, sym, _∙_, ap, ap₂, subst}
-use mathlib.Core.Logic.{_↔_, _⊎_, inl, inr, ⊎-elim, Iff·symm}
+use mathlib.Core.Logic.{_↔_, _⊎_, inl, inr, ⊎-elim}
 use mathlib.Core.Option.{Option, none, some}
 use mathlib.Core.List.{List, [], _++_}
 use Prim.Native.Nat.{ℕ, _+_, _*_, _≤_, _<_}
@@ -16,26 +16,28 @@ use Rattle.lists.proofs.Places.{same-places}
 use Rattle.lists.proofs.Table.{length-table, table-at}
 use Rattle.lists.proofs.Sums.{sum-within}
 use Rattle.runs.specs.Run.{bound}
+use Rattle.jobs.specs.Call.{Call}
 use Rattle.jobs.specs.Job.{Job, jobOf, variable}
 use Rattle.jobs.specs.Solution.{number, IsSolution, objective, Optimal, best}
 use Rattle.jobs.specs.SheetOffsets.{groupRowsAt, sheetLength}
 use Rattle.jobs.specs.Component.{lowest, leads}
 use Rattle.jobs.specs.Family.{componentJob}
 use Rattle.jobs.specs.Findings.{findings}
-use Rattle.jobs.specs.ReasonTable.{ShortFor, IsFirst}
+use Rattle.jobs.specs.ReasonTable.{Shorter}
 use Rattle.jobs.specs.Lawful.{LawfulJob}
 use Rattle.jobs.specs.Faults.{firstBroken}
-use Rattle.jobs.specs.Verdict.{Verdict, planned, noFit, refused, firstWithout, outcome, short?, verdict}
+use Rattle.jobs.specs.Verdict.{Verdict, planned, noFit, refused, firstWithout, outcome, verdict}
 use Rattle.jobs.specs.SheetLayout.{laidOut}
-use Rattle.jobs.specs.Sheet.{sheet}
-use Rattle.jobs.specs.Demands.{worthOn, numberOn, numbersOn, TurnsAway, LaidOut, NoneFits, CannotBeBettered, FamiliesOn, NotTurnedAway, GivesFits}
-use Rattle.jobs.proofs.Faults.{first-by, reported-iff, sound-iff}
+use Rattle.jobs.specs.AreasAfter.{atFront, areasAfter}
+use Rattle.jobs.specs.Demands.{IfLent, KeptFrom, worthOn, numberOn, numbersOn, TurnsAway, NoneFits, BestOn, CannotBeBettered, FamiliesOn, NotTurnedAway, FitsOn, GivesFits}
+use Rattle.jobs.proofs.Faults.{found-iff, sound-iff}
 use Rattle.jobs.proofs.Lawful.{lawful-named, lawful}
 use Rattle.bytes.proofs.TwosComplement.{within-fits}
-use Rattle.jobs.proofs.SheetFields.{number-back, worth-back, laidOut-back, if-planned, if-noFit, if-refused, length-sheet, drop-sheet}
+use Rattle.jobs.proofs.SheetFields.{number-back, worth-back, laidOut-back}
+use Rattle.jobs.proofs.AreasAfter.{if-lent, if-planned, if-noFit, if-refused, past-sheet}
 use Rattle.jobs.proofs.Solutions.{best-is}
 use Rattle.jobs.proofs.Components.{in-leads}
-use Rattle.jobs.proofs.Numbering.{lead-iff, groups-are, short-iff}
+use Rattle.jobs.proofs.Numbering.{lead-iff, groups-are}
 use Rattle.jobs.proofs.Assembly.{solves-iff, some-iff, fits-iff, fits-some, all-fit, without-iff}
 
 -- ---- what is behind each verdict
@@ -109,100 +111,88 @@ module _ (j : Job) (f : LawfulJob j) where
     objective-back : worthOn (laidOut (findings j) ++ rest) ≡ objective j (best j)
     objective-back = worth-back (findings j) rest (within-fits 8 (length (j .variables) * (1000000 * bound)) (objective j (best j)) (omega (arith, f .variables)) (objective-within (best j) s))
 
-module _ (s area : List ℕ) where
-  abbrev pub fault : Option Reason
-  fault = firstBroken (short? (jobOf s) area) s
+module _ (c : Call) where
+  abbrev job : Job
+  job = jobOf (c .job)
 
-  pub verdict-is : verdict s area ≡ outcome fault (firstWithout (jobOf s)) (objective (jobOf s) (best (jobOf s)))
+  pub verdict-is : verdict c ≡ outcome (firstBroken c) (firstWithout (jobOf (c .job))) (objective (jobOf (c .job)) (best (jobOf (c .job))))
   unfolding verdict
   verdict-is = refl
 
-  pub planned-when : (w : ℤ) → verdict s area ≡ planned w → (fault ≡ none) × ((firstWithout (jobOf s) ≡ none) × (objective (jobOf s) (best (jobOf s)) ≡ w))
-  planned-when w e = was-planned (objective (jobOf s) (best (jobOf s))) fault (firstWithout (jobOf s)) w (sym verdict-is ∙ e)
+  pub planned-when : (w : ℤ) → verdict c ≡ planned w → (firstBroken c ≡ none) × ((firstWithout (jobOf (c .job)) ≡ none) × (objective (jobOf (c .job)) (best (jobOf (c .job))) ≡ w))
+  planned-when w e = was-planned (objective job (best job)) (firstBroken c) (firstWithout job) w (sym verdict-is ∙ e)
 
-  noFit-when : (l : ℕ) → verdict s area ≡ noFit l → (fault ≡ none) × (firstWithout (jobOf s) ≡ some l)
-  noFit-when l e = was-noFit (objective (jobOf s) (best (jobOf s))) fault (firstWithout (jobOf s)) l (sym verdict-is ∙ e)
+  noFit-when : (l : ℕ) → verdict c ≡ noFit l → (firstBroken c ≡ none) × (firstWithout job ≡ some l)
+  noFit-when l e = was-noFit (objective job (best job)) (firstBroken c) (firstWithout job) l (sym verdict-is ∙ e)
 
-  refused-when : (p q : ℕ) → verdict s area ≡ refused p q → (r : Reason) × ((fault ≡ some r) × ((numberOf r ≡ p) × (rowOf r ≡ q)))
-  refused-when p q e = was-refused (objective (jobOf s) (best (jobOf s))) fault (firstWithout (jobOf s)) p q (sym verdict-is ∙ e)
-
-  -- what is reported is what is found first
-  pub reported : (r : Reason) → IsFirst (ShortFor (jobOf s) area) s r → fault ≡ some r
-  reported r h = reported-iff s (short? (jobOf s) area) r .1 (first-by (Iff·symm (short-iff (jobOf s) area)) s r h)
+  refused-when : (p q : ℕ) → verdict c ≡ refused p q → (r : Reason) × ((firstBroken c ≡ some r) × ((numberOf r ≡ p) × (rowOf r ≡ q)))
+  refused-when p q e = was-refused (objective job (best job)) (firstBroken c) (firstWithout job) p q (sym verdict-is ∙ e)
 
   -- ---- the first demand
-  pub turns-away : TurnsAway s area (verdict s area) (sheet s area)
+  pub turns-away : TurnsAway c (verdict c) (areasAfter c)
   turns-away = record {
-    exactly = λ p q. (to p q, from p q);
-    untouched = λ p q e. if-refused s area e;
-    inside = length-sheet s area long;
-    rest = λ g group f. subst (λ g. drop (groupRowsAt (jobOf s) + 16 * g) (sheet s area) ≡ drop (groupRowsAt (jobOf s) + 16 * g) area) (sym (groups-are (jobOf s) g group f)) (drop-sheet s area);
+    exactly = λ p q. (λ e. found-iff c p q .1 (refused-when p q e), λ h. from p q (found-iff c p q .0 h));
+    untouched = λ p q e. if-refused c e;
+    past-sheet = λ g group f. subst (λ g. KeptFrom (groupRowsAt job + 16 * g) (c .lent .sheet) (areasAfter c .sheet)) (sym (groups-are job g group f)) (past-sheet c long);
   }
     where
-      to : (p q : ℕ) → verdict s area ≡ refused p q → (r : Reason) × ((numberOf r ≡ p) × ((rowOf r ≡ q) × IsFirst (ShortFor (jobOf s) area) s r))
-      to p q e = let (r, h) = refused-when p q e in (r, (h .1 .0, (h .1 .1, first-by (short-iff (jobOf s) area) s r (reported-iff s (short? (jobOf s) area) r .0 (h .0)))))
+      from : (p q : ℕ) → (r : Reason) × ((firstBroken c ≡ some r) × ((numberOf r ≡ p) × (rowOf r ≡ q))) → verdict c ≡ refused p q
+      from p q (r, h) = verdict-is ∙ ap (λ o. outcome o (firstWithout job) (objective job (best job))) (h .0) ∙ ap₂ refused (h .1 .0) (h .1 .1)
 
-      from : (p q : ℕ) → (r : Reason) × ((numberOf r ≡ p) × ((rowOf r ≡ q) × IsFirst (ShortFor (jobOf s) area) s r)) → verdict s area ≡ refused p q
-      from p q (r, h) =
-          verdict-is
-          ∙ ap (λ o. outcome o (firstWithout (jobOf s)) (objective (jobOf s) (best (jobOf s)))) (reported r (h .1 .1))
-          ∙ ap₂ refused (h .0) (h .1 .0)
-
-      long : (w : ℤ) → verdict s area ≡ planned w → sheetLength (jobOf s) ≤ length area
-      long w e = let h : ¬ (length area < sheetLength (jobOf s)) = sound-iff s (short? (jobOf s) area) .0 (planned-when w e .0) ShortArea in omega arith
+      long : (w : ℤ) → verdict c ≡ planned w → ¬ Shorter (c .lent .sheet) (sheetLength job)
+      long w e = sound-iff c .0 (planned-when w e .0) ShortArea
 
   -- ---- the third demand
-  pub lawful-of : fault ≡ none → LawfulJob (jobOf s)
-  lawful-of e = lawful (short? (jobOf s) area) s e .job
+  pub lawful-of : firstBroken c ≡ none → LawfulJob (jobOf (c .job))
+  lawful-of e = lawful c e .job
 
-  module _ (w : ℤ) (e : verdict s area ≡ planned w) where
-    optimal-of : Optimal (jobOf s) (best (jobOf s))
-    optimal-of = let (o, h) = planned-when w e in optimal-best (jobOf s) (lawful-of o) (h .0)
+  -- what stands on a sheet that is planned
+  pub on-sheet : (P : List ℕ → Type 0) (w : ℤ) → verdict c ≡ planned w → ((rest : List ℕ) → P (laidOut (findings (jobOf (c .job))) ++ rest)) → IfLent (areasAfter c .sheet) P
+  on-sheet P w e h = subst (λ o. IfLent o P) (sym (if-planned c e)) (if-lent P (atFront (laidOut (findings job))) (λ area. h (drop (length (laidOut (findings job))) area)) (c .lent .sheet))
 
-    -- what stands on the sheet
-    abbrev rest : List ℕ
-    rest = drop (length (laidOut (findings (jobOf s)))) area
-
-    numbers-of : numbersOn (jobOf s) (sheet s area) ≡ best (jobOf s)
-    numbers-of = let (o, h) = planned-when w e in ap (numbersOn (jobOf s)) (if-planned s area e) ∙ numbers-back (jobOf s) (lawful-of o) (h .0) rest
-
-    worth-of : worthOn (sheet s area) ≡ w
-    worth-of = let (o, h) = planned-when w e in ap worthOn (if-planned s area e) ∙ objective-back (jobOf s) (lawful-of o) (h .0) rest ∙ h .1
-
-  pub cannot-be-bettered : CannotBeBettered s area (verdict s area) (sheet s area)
-  cannot-be-bettered = record {
-    optimal = λ w e. subst (Optimal (jobOf s)) (sym (numbers-of w e)) (optimal-of w e);
-    worth = λ w e. sym (planned-when w e .1 .1) ∙ ap (objective (jobOf s)) (sym (numbers-of w e));
-    shown = worth-of;
-  }
-
-  -- ---- of the second: the numbers on a planned sheet are a solution, and its other fields that need no families are as told
-  pub given-solution : (w : ℤ) → verdict s area ≡ planned w → IsSolution (jobOf s) (numbersOn (jobOf s) (sheet s area))
-  given-solution w e = cannot-be-bettered .optimal w e .solution
-
-  pub laid-out : (w : ℤ) → verdict s area ≡ planned w → LaidOut (jobOf s) (sheet s area)
-  laid-out w e =
-      let f = lawful-of (planned-when w e .0) in
-      subst (LaidOut (jobOf s)) (sym (if-planned s area e)) (laidOut-back (jobOf s) (drop (length (laidOut (findings (jobOf s)))) area) (omega (arith, f .variables)))
-
-  -- and "no fit" only when there is none
-  pub no-fit-only : (l : ℕ) → verdict s area ≡ noFit l → NoneFits (jobOf s) l × (sheet s area ≡ area)
-  no-fit-only l e = let (o, h) = noFit-when l e in (none-fits (jobOf s) (lawful-of o) l h, if-noFit s area e)
-
-  -- a job that is not turned away is planned or has no fit
-  pub one-of-two : NotTurnedAway s area → ((w : ℤ) × (verdict s area ≡ planned w)) ⊎ ((l : ℕ) × (verdict s area ≡ noFit l))
-  one-of-two p = go (verdict s area) refl
+  pub cannot-be-bettered : CannotBeBettered c (verdict c) (areasAfter c)
+  cannot-be-bettered = record { best = λ w e. on-sheet (BestOn job w) w e (stands w e) }
     where
-      go : (v : Verdict) → verdict s area ≡ v → ((w : ℤ) × (verdict s area ≡ planned w)) ⊎ ((l : ℕ) × (verdict s area ≡ noFit l))
+      stands : (w : ℤ) → verdict c ≡ planned w → (rest : List ℕ) → BestOn job w (laidOut (findings job) ++ rest)
+      stands w e rest =
+          let (o, (full, z)) = planned-when w e in
+          let f = lawful-of o in
+          let numbers = numbers-back job f full rest in
+          record {
+            optimal = subst (Optimal job) (sym numbers) (optimal-best job f full);
+            worth = sym z ∙ ap (objective job) (sym numbers);
+            shown = objective-back job f full rest ∙ z;
+          }
+
+  -- ---- of the second: "no fit" only when there is none
+  pub no-fit-only : (l : ℕ) → verdict c ≡ noFit l → NoneFits (jobOf (c .job)) l × (areasAfter c .sheet ≡ c .lent .sheet)
+  no-fit-only l e = let (o, h) = noFit-when l e in (none-fits job (lawful-of o) l h, if-noFit c e)
+
+  -- a call that is not turned away is planned or has no fit
+  pub one-of-two : NotTurnedAway c → ((w : ℤ) × (verdict c ≡ planned w)) ⊎ ((l : ℕ) × (verdict c ≡ noFit l))
+  one-of-two p = go (verdict c) refl
+    where
+      go : (v : Verdict) → verdict c ≡ v → ((w : ℤ) × (verdict c ≡ planned w)) ⊎ ((l : ℕ) × (verdict c ≡ noFit l))
       go (planned w) e = inl (w, e)
       go (noFit l) e = inr (l, e)
       go (refused reason row) e = absurd (p reason row (turns-away .exactly reason row .0 e))
 
   -- so of the second only the families are left
-  pub gives-fits : ((w : ℤ) → verdict s area ≡ planned w → FamiliesOn (jobOf s) (sheet s area)) → GivesFits s area (verdict s area) (sheet s area)
-  gives-fits f = record {
-    one-of = one-of-two;
-    exists = λ p x h. ⊎-elim (λ d. d) (λ (l, e). absurd (no-fit-only l e .0 .none x h)) (one-of-two p);
-    given = λ w e. (given-solution w e, (laid-out w e, f w e));
-    no-fit = no-fit-only;
-  }
+  module _ (families : (w : ℤ) → verdict c ≡ planned w → (rest : List ℕ) → FamiliesOn (jobOf (c .job)) (laidOut (findings (jobOf (c .job))) ++ rest)) where
+    fits-on : (w : ℤ) → verdict c ≡ planned w → (rest : List ℕ) → FitsOn job (laidOut (findings job) ++ rest)
+    fits-on w e rest =
+        let (o, (full, z)) = planned-when w e in
+        let f = lawful-of o in
+        record {
+          solution = subst (IsSolution job) (sym (numbers-back job f full rest)) (optimal-best job f full .solution);
+          laid-out = laidOut-back job rest (omega (arith, f .variables));
+          families = families w e rest;
+        }
+
+    pub gives-fits : GivesFits c (verdict c) (areasAfter c)
+    gives-fits = record {
+      one-of = one-of-two;
+      exists = λ p x h. ⊎-elim (λ d. d) (λ (l, e). absurd (no-fit-only l e .0 .none x h)) (one-of-two p);
+      given = λ w e. on-sheet (FitsOn job) w e (fits-on w e);
+      no-fit = no-fit-only;
+    }

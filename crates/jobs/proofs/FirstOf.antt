@@ -53,13 +53,13 @@ module _ {A : Type 0} {P : A → Type 0} (d : (x : A) → Dec (P x)) where
   holds-none [] f = first-none
   holds-none (x ∷ xs) f = first-later x xs (f x (here refl)) ∙ holds-none xs (λ y m. f y (there m))
 
-  -- a last member of which P does not hold changes nothing
-  pub first-without : (xs : List A) (y : A) → ¬ P y → firstOf d (xs ++ y ∷ []) ≡ firstOf d xs
-  first-without xs y h = go (firstOf d xs) refl
+  -- members behind of which P does not hold change nothing
+  pub first-before : (xs ys : List A) → firstOf d ys ≡ none → firstOf d (xs ++ ys) ≡ firstOf d xs
+  first-before xs ys h = go (firstOf d xs) refl
     where
-      go : (o : Option A) → firstOf d xs ≡ o → firstOf d (xs ++ y ∷ []) ≡ firstOf d xs
-      go none e = first-past xs (y ∷ []) e ∙ first-later y [] h ∙ first-none ∙ sym e
-      go (some z) e = first-stays xs (y ∷ []) e ∙ sym e
+      go : (o : Option A) → firstOf d xs ≡ o → firstOf d (xs ++ ys) ≡ firstOf d xs
+      go none e = first-past xs ys e ∙ h ∙ sym e
+      go (some z) e = first-stays xs ys e ∙ sym e
 
   -- what is found stands behind members of which P does not hold
   pub first-iff : (xs : List A) (x : A) → (firstOf d xs ≡ some x) ↔ First P xs x

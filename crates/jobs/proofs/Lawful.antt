@@ -13,8 +13,10 @@ use Rattle.lists.proofs.Members.{each-iff}
 use Rattle.jobs.specs.Job.{Equation, Job, jobOf, RowsInside, variableCount, equationCount, noEquation, variable, equation}
 use Rattle.jobs.specs.ReasonTable.{Misnamed, Broken, headerChecks}
 use Rattle.jobs.specs.Lawful.{LawfulEquation, LawfulJob, Lawful}
+use Rattle.jobs.specs.Call.{Call}
+use Rattle.jobs.specs.Component.{componentCount}
 use Rattle.jobs.specs.Decide.{firstOf}
-use Rattle.jobs.specs.Faults.{header?, inRange?, coefficients?, broken?, firstBroken}
+use Rattle.jobs.specs.Faults.{header?, inRange?, coefficients?, breaks?, firstBroken}
 use Rattle.jobs.proofs.JobOf.{variables-of, equations-of}
 use Rattle.jobs.proofs.FirstOf.{none-holds, holds-none}
 use Rattle.jobs.proofs.Faults.{sound-iff}
@@ -24,18 +26,24 @@ decided : {P : Type 0} → Dec P → ¬ ¬ P → P
 decided (yes p) h = p
 decided (no n) h = absurd (h n)
 
-module _ {short : Type 0} (d : Dec short) (s : List ℕ) where
-  pub rows-inside : firstOf (broken? d s) headerChecks ≡ none → RowsInside s
+module _ (c : Call) where
+  abbrev s : List ℕ
+  s = c .job
+
+  abbrev g : ℕ
+  g = componentCount (jobOf s)
+
+  pub rows-inside : firstOf (breaks? c) headerChecks ≡ none → RowsInside (c .job)
   rows-inside e = record {
     variables = let h : ¬ (256 < variableCount s) = λ l. sound TooMany (there (there (here refl))) (inl l) in omega arith;
     equations = let h : ¬ (1024 < equationCount s) = λ l. sound TooMany (there (there (here refl))) (inr l) in omega arith;
     whole = decided (header? s) (sound WrongHeader (there (there (there (here refl))))) .real-length;
   }
     where
-      sound : (r : Reason) → r ∈ headerChecks → ¬ Broken short s r
-      sound = none-holds (broken? d s) headerChecks e
+      sound : (r : Reason) → r ∈ headerChecks → ¬ Broken g c r
+      sound = none-holds (breaks? c) headerChecks e
 
-  pub lawful : firstBroken d s ≡ none → Lawful s
+  pub lawful : firstBroken c ≡ none → Lawful (c .job)
   lawful e = record {
     rows = inside;
     job = record {
@@ -46,11 +54,11 @@ module _ {short : Type 0} (d : Dec short) (s : List ℕ) where
     };
   }
     where
-      sound : (r : Reason) → ¬ Broken short s r
-      sound = sound-iff s d .0 e
+      sound : (r : Reason) → ¬ Broken g c r
+      sound = sound-iff c .0 e
 
       inside : RowsInside s
-      inside = rows-inside (holds-none (broken? d s) headerChecks (λ r m. sound r))
+      inside = rows-inside (holds-none (breaks? c) headerChecks (λ r m. sound r))
 
       row : (k : ℕ) → k < equationCount s → LawfulEquation (length (jobOf s .variables)) (equation (jobOf s) k)
       row k h = record {

@@ -9,6 +9,12 @@ pub mod Branches
 pub mod FirstOf
 -- the checks of the rows, row by row
 pub mod RowChecks
+-- two variables are joined exactly when their lowest joined variables are the same (`joined-iff`, `lowest-least`); an equation
+-- joins two sets exactly when they differ (`joins-iff`); components are numbered in their order (`component-at`, `component-lead`)
+pub mod Components
+-- components by document 01's sentence, and by the functions that compute: `lead-iff`, `component-numbers`; there is one number
+-- of them and one numbering (`groups-are`, `group-is`)
+pub mod Numbering
 -- a reason is reported exactly when its rule is broken and none before it (`reported-iff`), a job accepted exactly when no rule is
 -- (`sound-iff`)
 pub mod Faults
@@ -21,12 +27,6 @@ pub mod TieBreak
 -- the exhaustive list has just the solutions (`in-solutions`), rising; "better" is a strict total order (`better-trans`,
 -- `better-compared`); the best is a solution and better than every other, and nothing else is (`best-is`, `best-only`)
 pub mod Solutions
--- two variables are joined exactly when their lowest joined variables are the same (`joined-iff`, `lowest-least`); an equation
--- joins two sets exactly when they differ (`joins-iff`); components are numbered in their order (`component-at`, `component-lead`)
-pub mod Components
--- components by document 01's sentence, and by the functions that compute: `lead-iff`, `component-numbers`; there is one number
--- of them and one numbering (`groups-are`, `group-is`)
-pub mod Numbering
 -- from components to the whole job and back: `solves-iff`, `part-solution`, `assembled-solution`; the job has a solution exactly
 -- when each component has one (`some-iff`)
 pub mod Assembly
@@ -38,9 +38,11 @@ pub mod AnyTieBreak
 -- where the fields of a sheet stand, and that they read back (`laidOut-back`); findings that agree are laid out alike
 -- (`same-layout`)
 pub mod SheetFields
+-- every area after a call, case by case: `if-planned`, `if-refused`, `past-sheet`
+pub mod AreasAfter
 -- the definitions keep the demands (`turns-away`, `cannot-be-bettered`; of the second all but the families, `gives-fits`)
 pub mod DemandsHold
--- verdict and sheet, case by case, from what the job check answers: `as-checked`, `too-short`, `no-fit`, `best-fit`
+-- verdict and areas, case by case, from what the job check answers: `as-checked`, `too-short`, `as-fitting`
 pub mod Outcomes
 -- of a list longer than any lawful job the first part is answered as the whole: `longer-same`
 pub mod LongInput

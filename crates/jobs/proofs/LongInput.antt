@@ -1,5 +1,5 @@
 -- The longest lawful job has 24 + 12·256 + 20·1,024 bytes. A job of more bytes is refused for what its header says, and what
--- follows the first 23,577 bytes changes neither verdict nor sheet: a program need read no more than those.
+-- follows the first 23,577 bytes changes neither verdict nor areas: a program need read no more than those.
 use mathlib.Core.Path.{_≡_, sym, _∙_, ap, subst}
 use mathlib.Core.Logic.{_⊎_, inl, inr, _≢_}
 use mathlib.Core.List.{List, [], _∷_, _++_}
@@ -9,19 +9,20 @@ use native.Mathlib.Omega.{arith}
 use lib.ListN.{length, take, drop, take-append-drop, length-append}
 use lib.Seq.{take-all, length-take-le, take-append-le}
 use Rattle.reasons.specs.declared.Reason.{Reason}
-use Rattle.reasons.specs.declared.Reason.the-variants.{ShortJob, WrongMark, TooMany, WrongHeader, ShortArea}
+use Rattle.reasons.specs.declared.Reason.the-variants.{ShortJob, WrongMark, TooMany, WrongHeader}
 use Rattle.reasons.specs.Numbers.{numberOf, rowOf}
 use Rattle.bytes.specs.LittleEndian.{unsigned}
+use Rattle.jobs.specs.Call.{Areas, Call, callOf}
 use Rattle.jobs.specs.Job.{jobOf, variableCount, equationCount}
 use Rattle.jobs.specs.Solution.{objective, best}
-use Rattle.jobs.specs.ReasonTable.{mark, Header, headerChecks, rowChecks, checks}
+use Rattle.jobs.specs.ReasonTable.{mark, Header, headerChecks, rowChecks, areaChecks, checks}
 use Rattle.jobs.specs.Decide.{atMost?, below?, either, list?, firstOf}
-use Rattle.jobs.specs.Faults.{broken?, firstBroken}
-use Rattle.jobs.specs.Verdict.{refused, firstWithout, outcome, short?, verdict}
-use Rattle.jobs.specs.Sheet.{sheet}
+use Rattle.jobs.specs.Faults.{breaks?, firstBroken}
+use Rattle.jobs.specs.Verdict.{refused, firstWithout, outcome, verdict}
+use Rattle.jobs.specs.AreasAfter.{areasAfter}
 use Rattle.jobs.proofs.FirstOf.{first-here, first-later, first-stays}
 use Rattle.bytes.proofs.LittleEndian.{unsigned-first}
-use Rattle.jobs.proofs.SheetFields.{if-refused}
+use Rattle.jobs.proofs.AreasAfter.{if-refused}
 use Rattle.jobs.proofs.DemandsHold.{verdict-is}
 
 -- ---- the reason, where there are too many bytes: by the mark and the counts alone
@@ -44,55 +45,57 @@ reasoned front n m = go (list? front mark) (either (below? 256 n) (below? 1024 m
 abbrev ReasonOf : List ℕ → Reason → Type 0
 ReasonOf s r = Reasoned (take 4 s) (variableCount s) (equationCount s) r
 
-module _ (s : List ℕ) (long : 23576 < length s) where
+module _ (c : Call) (long : 23576 < length (c .job)) where
+  abbrev s : List ℕ
+  s = c .job
+
   no-header : ¬ TooHigh (variableCount s) (equationCount s) → ¬ Header s
   no-header h k =
       let a : ¬ (256 < variableCount s) = λ l. h (inl l) in
       let b : ¬ (1024 < equationCount s) = λ l. h (inr l) in
       omega (arith, k .real-length)
 
-  module _ {short : Type 0} (d : Dec short) where
-    in-header : (r : Reason) → ReasonOf s r → firstOf (broken? d s) headerChecks ≡ some r
-    in-header r h = first-later (broken? d s) ShortJob _ (λ l. omega (arith, l, long)) ∙ go r h
-      where
-        go : (r : Reason) → ReasonOf s r → firstOf (broken? d s) (WrongMark ∷ TooMany ∷ WrongHeader ∷ []) ≡ some r
-        go _ (by-mark h) = first-here (broken? d s) WrongMark _ h
-        go _ (by-counts e h) = first-later (broken? d s) WrongMark _ (λ n. n e) ∙ first-here (broken? d s) TooMany _ h
-        go _ (by-length e h) = first-later (broken? d s) WrongMark _ (λ n. n e) ∙ first-later (broken? d s) TooMany _ h ∙ first-here (broken? d s) WrongHeader _ (no-header h)
+  in-header : (r : Reason) → ReasonOf s r → firstOf (breaks? c) headerChecks ≡ some r
+  in-header r h = first-later (breaks? c) ShortJob _ (λ l. omega (arith, l, long)) ∙ go r h
+    where
+      go : (r : Reason) → ReasonOf s r → firstOf (breaks? c) (WrongMark ∷ TooMany ∷ WrongHeader ∷ []) ≡ some r
+      go _ (by-mark h) = first-here (breaks? c) WrongMark _ h
+      go _ (by-counts e h) = first-later (breaks? c) WrongMark _ (λ n. n e) ∙ first-here (breaks? c) TooMany _ h
+      go _ (by-length e h) = first-later (breaks? c) WrongMark _ (λ n. n e) ∙ first-later (breaks? c) TooMany _ h ∙ first-here (breaks? c) WrongHeader _ (no-header h)
 
-    fault-long : (r : Reason) → ReasonOf s r → firstBroken d s ≡ some r
-    unfolding firstBroken checks
-    fault-long r h = first-stays (broken? d s) headerChecks (rowChecks s ++ ShortArea ∷ []) (in-header r h)
+  fault-long : (r : Reason) → ReasonOf s r → firstBroken c ≡ some r
+  unfolding firstBroken checks
+  fault-long r h = first-stays (breaks? c) headerChecks (rowChecks s ++ areaChecks) (in-header r h)
 
-  refused-long : (area : List ℕ) (r : Reason) → ReasonOf s r → verdict s area ≡ refused (numberOf r) (rowOf r)
-  refused-long area r h = verdict-is s area ∙ ap (λ o. outcome o (firstWithout (jobOf s)) (objective (jobOf s) (best (jobOf s)))) (fault-long (short? (jobOf s) area) r h)
+  refused-long : (r : Reason) → ReasonOf s r → verdict c ≡ refused (numberOf r) (rowOf r)
+  refused-long r h = verdict-is c ∙ ap (λ o. outcome o (firstWithout (jobOf s)) (objective (jobOf s) (best (jobOf s)))) (fault-long r h)
 
 -- ---- so a longer list is answered as its first part
-abbrev Same : List ℕ → List ℕ → List ℕ → Type 0
-Same s t area = (verdict s area ≡ verdict t area) × (sheet s area ≡ sheet t area)
+abbrev Same : List ℕ → List ℕ → Areas → Type 0
+Same s t lent = (verdict (callOf s lent) ≡ verdict (callOf t lent)) × (areasAfter (callOf s lent) ≡ areasAfter (callOf t lent))
 
-module _ (xs ys area : List ℕ) (long : 23576 < length xs) where
+module _ (xs ys : List ℕ) (lent : Areas) (long : 23576 < length xs) where
   field : (k at : ℕ) → at + k ≤ 24 → unsigned k (xs ++ ys) at ≡ unsigned k xs at
   field k at h = unsigned-first k xs ys at (omega (arith, h, long))
 
-  followed : Same xs (xs ++ ys) area
+  followed : Same xs (xs ++ ys) lent
   followed =
       let (r, h) = reasoned (take 4 xs) (variableCount xs) (equationCount xs) in
-      let p = refused-long xs long area r h in
-      let q = refused-long (xs ++ ys) (omega (arith, long, length-append xs ys)) area r (carried r h) in
-      (p ∙ sym q, if-refused xs area p ∙ sym (if-refused (xs ++ ys) area q))
+      let p = refused-long (callOf xs lent) long r h in
+      let q = refused-long (callOf (xs ++ ys) lent) (omega (arith, long, length-append xs ys)) r (carried r h) in
+      (p ∙ sym q, if-refused (callOf xs lent) p ∙ sym (if-refused (callOf (xs ++ ys) lent) q))
     where
       carried : (r : Reason) → ReasonOf xs r → ReasonOf (xs ++ ys) r
       carried r h = rw (take-append-le 4 xs ys (omega (arith, long)), field 2 4 (omega arith), field 2 6 (omega arith)) h
 
 -- however much more than that is taken
-taken-same : (n : ℕ) → 23576 < n → (s area : List ℕ) → Same (take n s) s area
-taken-same n h s area = go (atMost? (length s) n)
+taken-same : (n : ℕ) → 23576 < n → (s : List ℕ) (lent : Areas) → Same (take n s) s lent
+taken-same n h s lent = go (atMost? (length s) n)
   where
-    go : Dec (length s ≤ n) → Same (take n s) s area
-    go (yes l) = let e = take-all n s l in (ap (λ t. verdict t area) e, ap (λ t. sheet t area) e)
-    go (no l) = subst (λ t. Same (take n s) t area) (take-append-drop n s) (followed (take n s) (drop n s) area (omega (arith, h, l, length-take-le n s (omega (arith, l)))))
+    go : Dec (length s ≤ n) → Same (take n s) s lent
+    go (yes l) = let e = take-all n s l in (ap (λ t. verdict (callOf t lent)) e, ap (λ t. areasAfter (callOf t lent)) e)
+    go (no l) = subst (λ t. Same (take n s) t lent) (take-append-drop n s) (followed (take n s) (drop n s) lent (omega (arith, h, l, length-take-le n s (omega (arith, l)))))
 
 -- as the print program takes it
-pub longer-same : (s area : List ℕ) → (verdict (take 23577 s) area ≡ verdict s area) × (sheet (take 23577 s) area ≡ sheet s area)
+pub longer-same : (s : List ℕ) (lent : Areas) → (verdict (callOf (take 23577 s) lent) ≡ verdict (callOf s lent)) × (areasAfter (callOf (take 23577 s) lent) ≡ areasAfter (callOf s lent))
 longer-same = taken-same 23577 (omega arith)

@@ -13,10 +13,8 @@ use Rattle.lists.proofs.Members.{member-at}
 use Rattle.lists.proofs.Rising.{same-members, rising-at}
 use Rattle.lists.proofs.Table.{in-table, rising-table, length-table, table-at, in-upTo, rising-upTo, length-upTo}
 use Rattle.jobs.specs.Job.{Job}
-use Rattle.jobs.specs.SheetOffsets.{sheetLength}
 use Rattle.jobs.specs.Component.{IsLead, Numbered, lowest, leads, componentCount, component}
 use Rattle.jobs.specs.Decide.{below?}
-use Rattle.jobs.specs.ReasonTable.{ShortFor}
 use Rattle.jobs.proofs.Components.{lowest-joined, lowest-least, lowest-le, in-leads, rising-leads, component-at, component-below, component-lead, component-iff}
 
 module _ (j : Job) where
@@ -104,10 +102,3 @@ module _ (j : Job) where
       λ (i, m). omega (arith, e, f i (m .0), m .1, component-below j i (m .0)),
     );
   }
-
-  -- ---- reason 8, as the table has it and as it is tested
-  pub short-iff : (area : List ℕ) → (length area < sheetLength j) ↔ ShortFor j area
-  short-iff area = (
-    λ h. (componentCount j, (component j, (component-numbers, h))),
-    λ (g, (group, h)). omega (arith, groups-are g group (h .0), h .1),
-  )

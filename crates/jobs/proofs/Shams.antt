@@ -15,22 +15,26 @@ use Rattle.lists.proofs.Rising.{rising-distinct, same-length}
 use Rattle.lists.proofs.Table.{in-table, rising-table, length-table, table-at}
 use Rattle.lists.proofs.Lexicographic.{lower-asym}
 use Rattle.bytes.specs.LittleEndian.{unsigned}
+use Rattle.jobs.specs.Call.{Call, areasOf, callOf}
 use Rattle.jobs.specs.Job.{Job, jobOf, variable}
 use Rattle.jobs.specs.Solution.{number, IsSolution, best}
 use Rattle.jobs.specs.SheetOffsets.{sheetLength}
 use Rattle.jobs.specs.Component.{Joined, IsLead, lowest, leads}
 use Rattle.jobs.specs.Family.{componentJob, fits, base}
-use Rattle.jobs.specs.Faults.{accepted, refused as turned, checked}
-use Rattle.jobs.specs.Verdict.{planned, noFit, refused, firstWithout, short?}
+use Rattle.jobs.specs.Faults.{firstBroken, accepted, refused as turned, checked}
+use Rattle.jobs.specs.Verdict.{planned, noFit, refused, firstWithout}
 use Rattle.jobs.specs.SheetLayout.{answerMark}
 use Rattle.jobs.specs.Demands.{numberOn, groupOn, fitsOn, numbersOn, memberOn, TurnsAway, FamilyOn, NotTurnedAway, GivesFits, CannotBeBettered}
 use Rattle.jobs.specs.JobBytes.{plus, header, count, plain, difference}
-use Rattle.jobs.proofs.Faults.{fault-checked, fault-none, accepted-none, refused-some}
+use Rattle.jobs.proofs.Faults.{found-iff, fault-checked, fault-none, accepted-none, refused-some}
 use Rattle.jobs.proofs.Solutions.{rising-solutions, in-solutions, best-only}
 use Rattle.jobs.proofs.Components.{joined-iff, in-leads}
 use Rattle.jobs.proofs.Numbering.{lead-iff}
 use Rattle.jobs.proofs.Assembly.{solves-iff}
-use Rattle.jobs.proofs.DemandsHold.{fault, reported}
+
+-- a planning call
+abbrev pub lends : List ℕ → List ℕ → Call
+lends s area = callOf s (areasOf area)
 
 -- ---- jobs that refuse them
 abbrev pub noCounts : List ℕ
@@ -62,11 +66,11 @@ unfolding checked firstWithout jobOf
 small = (refl, refl)
 
 -- demand 3 leaves no other numbers than those of the best
-pub numbers-are-fixed : (s area after : List ℕ) (w : ℤ) → CannotBeBettered s area (planned w) after →
+pub numbers-are-fixed : (s area after : List ℕ) (w : ℤ) → CannotBeBettered (lends s area) (planned w) (areasOf after) →
     (i : ℕ) → i < length (jobOf s .variables) → numberOn after i ≡ number (best (jobOf s)) i
 numbers-are-fixed s area after w d i h =
     sym (table-at (numberOn after) (length (jobOf s .variables)) i (pos 0) h)
-    ∙ ap (λ x. number x i) (best-only (jobOf s) (numbersOn (jobOf s) after) (d .optimal w refl))
+    ∙ ap (λ x. number x i) (best-only (jobOf s) (numbersOn (jobOf s) after) (d .best w refl .optimal))
 
 one-not-zero : pos 1 ≢ pos 0
 one-not-zero e = lin [] e (search facts depth 20) (omega arith)
@@ -75,9 +79,9 @@ one-not-zero e = lin [] e (search facts depth 20) (omega arith)
 abbrev pub RestAtLow : Job → List ℕ → Type 0
 RestAtLow j after = (i : ℕ) → i < length (j .variables) → ¬ Joined j 0 i → numberOn after i ≡ variable j i .low
 
-pub first-group-only-ties : (area after : List ℕ) (w : ℤ) → RestAtLow (jobOf twoGroups) after → ¬ GivesFits twoGroups area (planned w) after
+pub first-group-only-ties : (area after : List ℕ) (w : ℤ) → RestAtLow (jobOf twoGroups) after → ¬ GivesFits (lends twoGroups area) (planned w) (areasOf after)
 unfolding jobOf unsigned table lowest
-first-group-only-ties area after w f d = broken (f 1 (omega arith) (apart 1 (omega arith))) (f 2 (omega arith) (apart 2 (omega arith))) (d .given w refl .0 .holds 0 (omega arith))
+first-group-only-ties area after w f d = broken (f 1 (omega arith) (apart 1 (omega arith))) (f 2 (omega arith) (apart 2 (omega arith))) (d .given w refl .solution .holds 0 (omega arith))
   where
     apart : (i : ℕ) → lowest (jobOf twoGroups) 0 ≢ lowest (jobOf twoGroups) i → ¬ Joined (jobOf twoGroups) 0 i
     apart i n s = n (joined-iff (jobOf twoGroups) 0 i .0 s)
@@ -90,7 +94,7 @@ untied : ¬ Joined (jobOf twoCounts) 0 1
 unfolding jobOf unsigned table lowest
 untied s = omega (arith, joined-iff (jobOf twoCounts) 0 1 .0 s)
 
-pub first-group-only-worth : (area after : List ℕ) (w : ℤ) → RestAtLow (jobOf twoCounts) after → ¬ CannotBeBettered twoCounts area (planned w) after
+pub first-group-only-worth : (area after : List ℕ) (w : ℤ) → RestAtLow (jobOf twoCounts) after → ¬ CannotBeBettered (lends twoCounts area) (planned w) (areasOf after)
 unfolding jobOf unsigned table best
 first-group-only-worth area after w f d = one-not-zero (sym (numbers-are-fixed twoCounts area after w d 1 (omega arith)) ∙ f 1 (omega arith) untied)
 
@@ -117,26 +121,26 @@ family-fits {j} {l} {g} {after} self f =
     member : ℕ → List ℤ
     member = memberOn j after g
 
-pub fits-are-fixed : (s area after : List ℕ) (w : ℤ) → GivesFits s area (planned w) after → (l : ℕ) → IsLead (jobOf s) l →
+pub fits-are-fixed : (s area after : List ℕ) (w : ℤ) → GivesFits (lends s area) (planned w) (areasOf after) → (l : ℕ) → IsLead (jobOf s) l →
     fitsOn (jobOf s) after (groupOn after l) ≡ fits (componentJob (jobOf s) l)
 fits-are-fixed s area after w d l m =
     let j = jobOf s in
-    family-fits (in-leads j l .0 (lead-iff j l .0 m) .1) (d .given w refl .1 .1 .families l m)
+    family-fits (in-leads j l .0 (lead-iff j l .0 m) .1) (d .given w refl .families .families l m)
 
 -- ---- components numbered from 1: the first has number 0, where there is a count at all
 pub numbered-from-one : (s area after : List ℕ) (w : ℤ) → 0 < length (jobOf s .variables) →
-    ((i : ℕ) → i < length (jobOf s .variables) → groupOn after i ≢ 0) → ¬ GivesFits s area (planned w) after
+    ((i : ℕ) → i < length (jobOf s .variables) → groupOn after i ≢ 0) → ¬ GivesFits (lends s area) (planned w) (areasOf after)
 numbered-from-one s area after w any from d =
-    let f = d .given w refl .1 .0 .groups in
+    let f = d .given w refl .laid-out .groups in
     let (i, h) = f .each 0 .0 (omega (arith, f .each (groupOn after 0) .1 (0, (any, refl)))) in
     from i (h .0) (h .1)
 
 -- ---- two components given one number: counts that are not joined have two
 pub one-number : (s area after : List ℕ) (w : ℤ) (i k : ℕ) → i < length (jobOf s .variables) → k < length (jobOf s .variables) →
-    ¬ Joined (jobOf s) i k → groupOn after i ≡ groupOn after k → ¬ GivesFits s area (planned w) after
-one-number s area after w i k h l n e d = n (d .given w refl .1 .0 .groups .together i k h l .0 e)
+    ¬ Joined (jobOf s) i k → groupOn after i ≡ groupOn after k → ¬ GivesFits (lends s area) (planned w) (areasOf after)
+one-number s area after w i k h l n e d = n (d .given w refl .laid-out .groups .together i k h l .0 e)
 
-pub one-number-for-both : (area after : List ℕ) (w : ℤ) → groupOn after 0 ≡ groupOn after 1 → ¬ GivesFits twoCounts area (planned w) after
+pub one-number-for-both : (area after : List ℕ) (w : ℤ) → groupOn after 0 ≡ groupOn after 1 → ¬ GivesFits (lends twoCounts area) (planned w) (areasOf after)
 unfolding jobOf unsigned table
 one-number-for-both area after w = one-number twoCounts area after w 0 1 (omega arith) (omega arith) untied
 
@@ -144,35 +148,35 @@ one-number-for-both area after w = one-number twoCounts area after w 0 1 (omega 
 abbrev pub AtBase : Job → List ℕ → Type 0
 AtBase j after = (i : ℕ) → i < length (j .variables) → numberOn after i ≡ number (base (componentJob j (lowest j i))) i
 
-pub always-the-base : (area after : List ℕ) (w : ℤ) → AtBase (jobOf oneCount) after → ¬ CannotBeBettered oneCount area (planned w) after
+pub always-the-base : (area after : List ℕ) (w : ℤ) → AtBase (jobOf oneCount) after → ¬ CannotBeBettered (lends oneCount area) (planned w) (areasOf after)
 unfolding jobOf unsigned table componentJob base best
 always-the-base area after w f d = one-not-zero (sym (numbers-are-fixed oneCount area after w d 0 (omega arith)) ∙ f 0 (omega arith))
 
 -- ---- one that takes the lower number among equals, as document 01 had it (demand 3)
-pub lower-number-first : (area after : List ℕ) (w : ℤ) → numberOn after 0 ≡ pos 0 → ¬ CannotBeBettered weightless area (planned w) after
+pub lower-number-first : (area after : List ℕ) (w : ℤ) → numberOn after 0 ≡ pos 0 → ¬ CannotBeBettered (lends weightless area) (planned w) (areasOf after)
 unfolding jobOf unsigned table best
 lower-number-first area after w e d = one-not-zero (sym (numbers-are-fixed weightless area after w d 0 (omega arith)) ∙ e)
 
 -- ---- "one that says planned and writes no sheet (demand 2)": whatever the job, unless the area as lent begins like a sheet
-pub no-sheet : (s area : List ℕ) (w : ℤ) → take 4 area ≢ answerMark → ¬ GivesFits s area (planned w) area
-no-sheet s area w n d = n (d .given w refl .1 .0 .mark)
+pub no-sheet : (s area : List ℕ) (w : ℤ) → take 4 area ≢ answerMark → ¬ GivesFits (lends s area) (planned w) (areasOf area)
+no-sheet s area w n d = n (d .given w refl .laid-out .mark)
 
 -- ---- "one whose sheet is the same for all jobs (demand 2)": jobs that have it are of one number of counts
-pub same-sheet : (s area s′ area′ after : List ℕ) (w w′ : ℤ) → GivesFits s area (planned w) after → GivesFits s′ area′ (planned w′) after →
+pub same-sheet : (s area s′ area′ after : List ℕ) (w w′ : ℤ) → GivesFits (lends s area) (planned w) (areasOf after) → GivesFits (lends s′ area′) (planned w′) (areasOf after) →
     length (jobOf s .variables) ≡ length (jobOf s′ .variables)
-same-sheet s area s′ area′ after w w′ d d′ = sym (d .given w refl .1 .0 .variables) ∙ d′ .given w′ refl .1 .0 .variables
+same-sheet s area s′ area′ after w w′ d d′ = sym (d .given w refl .laid-out .variables) ∙ d′ .given w′ refl .laid-out .variables
 
 -- so it is no sheet of both of these
-pub same-sheet-twice : (area area′ after : List ℕ) (w w′ : ℤ) → GivesFits noCounts area (planned w) after → ¬ GivesFits oneCount area′ (planned w′) after
+pub same-sheet-twice : (area area′ after : List ℕ) (w w′ : ℤ) → GivesFits (lends noCounts area) (planned w) (areasOf after) → ¬ GivesFits (lends oneCount area′) (planned w′) (areasOf after)
 unfolding jobOf unsigned table
 same-sheet-twice area area′ after w w′ d d′ = omega (arith, same-sheet noCounts area oneCount area′ after w w′ d d′)
 
 -- ---- "one that reports "no fit" for all jobs (demand 2, only when none exists)"
-pub no-fit-for-all : (s area after : List ℕ) (l : ℕ) (x : List ℤ) → IsSolution (jobOf s) x → ¬ GivesFits s area (noFit l) after
+pub no-fit-for-all : (s area after : List ℕ) (l : ℕ) (x : List ℤ) → IsSolution (jobOf s) x → ¬ GivesFits (lends s area) (noFit l) (areasOf after)
 no-fit-for-all s area after l x h d = d .no-fit l refl .0 .none x h
 
 -- the empty list is a fit-out of the job without counts
-pub no-fit-for-noCounts : (area after : List ℕ) (l : ℕ) → ¬ GivesFits noCounts area (noFit l) after
+pub no-fit-for-noCounts : (area after : List ℕ) (l : ℕ) → ¬ GivesFits (lends noCounts area) (noFit l) (areasOf after)
 unfolding jobOf unsigned table
 no-fit-for-noCounts area after l =
     no-fit-for-all noCounts area after l [] record { long = refl; low = λ i h. absurd (omega arith); high = λ i h. absurd (omega arith); holds = λ k h. absurd (omega arith) }
@@ -181,11 +185,11 @@ no-fit-for-noCounts area after l =
 -- is necessary as well as sufficient)", and so demand 2, where a fit-out is given when one exists
 module _ (s area after : List ℕ) (reason row : ℕ) where
   -- no reason is reported for a job that the check accepts, with room for its sheet
-  not-turned-away : checked s ≡ accepted → sheetLength (jobOf s) ≤ length area → NotTurnedAway s area
-  not-turned-away ok room p q (r, h) =
-      Option·none-ne-some r (sym (fault-none s (short? (jobOf s) area) (accepted-none s ok) (λ l. omega (arith, l, room))) ∙ reported s area r (h .1 .1))
+  not-turned-away : checked s ≡ accepted → sheetLength (jobOf s) ≤ length area → NotTurnedAway (lends s area)
+  not-turned-away ok room p q k =
+      let (r, h) = found-iff (lends s area) p q .0 k in Option·none-ne-some r (sym (fault-none (lends s area) (accepted-none s ok) (λ l. omega (arith, l, room))) ∙ h .0)
 
-  pub refused-though-accepted : checked s ≡ accepted → sheetLength (jobOf s) ≤ length area → ¬ GivesFits s area (refused reason row) after
+  pub refused-though-accepted : checked s ≡ accepted → sheetLength (jobOf s) ≤ length area → ¬ GivesFits (lends s area) (refused reason row) (areasOf after)
   refused-though-accepted ok room d = ⊎-elim (λ (w, e). not-planned e) (λ (l, e). not-noFit e) (d .one-of (not-turned-away ok room))
     where
       not-planned : {w : ℤ} → refused reason row ≡ planned w → ⊥
@@ -194,26 +198,26 @@ module _ (s area after : List ℕ) (reason row : ℕ) where
       not-noFit : {l : ℕ} → refused reason row ≡ noFit l → ⊥
       not-noFit e = let z : _≡_ {A = ℕ} 0 1 = cc in omega arith
 
-  turned-by : TurnsAway s area (refused reason row) after → (r : Reason) × ((fault s area ≡ some r) × ((numberOf r ≡ reason) × (rowOf r ≡ row)))
-  turned-by d = let (r, h) = d .exactly reason row .0 refl in (r, (reported s area r (h .1 .1), (h .0, h .1 .0)))
+  turned-by : TurnsAway (lends s area) (refused reason row) (areasOf after) → (r : Reason) × ((firstBroken (lends s area) ≡ some r) × ((numberOf r ≡ reason) × (rowOf r ≡ row)))
+  turned-by d = found-iff (lends s area) reason row .0 (d .exactly reason row .0 refl)
 
   -- a job that the check accepts, with room for its sheet, has no reason and row
-  pub refused-unread : checked s ≡ accepted → sheetLength (jobOf s) ≤ length area → ¬ TurnsAway s area (refused reason row) after
+  pub refused-unread : checked s ≡ accepted → sheetLength (jobOf s) ≤ length area → ¬ TurnsAway (lends s area) (refused reason row) (areasOf after)
   refused-unread ok room d = not-turned-away ok room reason row (d .exactly reason row .0 refl)
 
   -- one that it refuses has its reason and row alone
-  pub refused-otherwise : (p q : ℕ) → checked s ≡ turned p q → TurnsAway s area (refused reason row) after → (reason ≡ p) × (row ≡ q)
+  pub refused-otherwise : (p q : ℕ) → checked s ≡ turned p q → TurnsAway (lends s area) (refused reason row) (areasOf after) → (reason ≡ p) × (row ≡ q)
   refused-otherwise p q e d =
       let (r, h) = turned-by d in
       let (t, k) = refused-some s p q e in
-      let same : r ≡ t = Option·some-injective r t (sym (h .0) ∙ fault-checked s (short? (jobOf s) area) t (k .0)) in
+      let same : r ≡ t = Option·some-injective r t (sym (h .0) ∙ fault-checked (lends s area) t (k .0)) in
       (sym (h .1 .0) ∙ ap numberOf same ∙ k .1 .0, sym (h .1 .1) ∙ ap rowOf same ∙ k .1 .1)
 
 -- so none can be given to each job
-pub refused-noCounts : (area after : List ℕ) (reason row : ℕ) → 24 ≤ length area → ¬ TurnsAway noCounts area (refused reason row) after
+pub refused-noCounts : (area after : List ℕ) (reason row : ℕ) → 24 ≤ length area → ¬ TurnsAway (lends noCounts area) (refused reason row) (areasOf after)
 unfolding checked jobOf unsigned leads
 refused-noCounts area after reason row room = refused-unread noCounts area after reason row refl room
 
-pub refused-for-all : (area after : List ℕ) (reason row : ℕ) → 24 ≤ length area → ¬ GivesFits noCounts area (refused reason row) after
+pub refused-for-all : (area after : List ℕ) (reason row : ℕ) → 24 ≤ length area → ¬ GivesFits (lends noCounts area) (refused reason row) (areasOf after)
 unfolding checked jobOf unsigned leads
 refused-for-all area after reason row room = refused-though-accepted noCounts area after reason row refl room

@@ -12,16 +12,14 @@ use Rattle.runs.specs.Run.{bound}
 use Rattle.lists.specs.Members.{_∈_}
 use Rattle.lists.specs.Table.{upTo}
 use Rattle.lists.proofs.Maps.{flatMap-same}
-use Rattle.lists.proofs.Places.{length-both, drop-past, length-flatMap}
+use Rattle.lists.proofs.Places.{length-both, length-flatMap}
 use Rattle.lists.proofs.Table.{in-upTo, table-at, length-upTo}
 use Rattle.bytes.specs.LittleEndian.{unsigned, i64, bytesOf, signedBytes}
 use Rattle.jobs.specs.Job.{Job, jobOf}
 use Rattle.jobs.specs.SheetOffsets.{sheetLength}
 use Rattle.jobs.specs.Component.{componentCount, component}
 use Rattle.jobs.specs.Findings.{Findings, findings}
-use Rattle.jobs.specs.Verdict.{Verdict, planned, noFit, refused, verdict}
 use Rattle.jobs.specs.SheetLayout.{sheetHeader, sheetVariable, sheetGroup, sheetVariables, sheetGroups, laidOut}
-use Rattle.jobs.specs.Sheet.{areaAfter, sheet}
 use Rattle.jobs.specs.Demands.{worthOn, numberOn, baseOn, stepOn, LaidOut}
 use Rattle.bytes.proofs.LittleEndian.{unsigned-first, unsigned-past, unsigned-part, unsigned-bytesOf}
 use Rattle.bytes.proofs.TwosComplement.{FitsBytes, within-fits, signed-field}
@@ -231,50 +229,3 @@ module _ {f g : Findings} (a : Agree f g) where
 
   pub same-layout : laidOut f ≡ laidOut g
   same-layout = laidOut-is f ∙ ap₂ _++_ (ap₂ _++_ same-header same-variables) same-groups ∙ sym (laidOut-is g)
-
--- ---- the area after the call: as long as before, and with the same past the sheet
-length-after : (f : Findings) (v : Verdict) (area : List ℕ) → ((w : ℤ) → v ≡ planned w → length (laidOut f) ≤ length area) → length (areaAfter f v area) ≡ length area
-unfolding areaAfter
-length-after f (planned w) area h = length-append (laidOut f) (drop (length (laidOut f)) area) ∙ omega (arith, length-drop (length (laidOut f)) area, h w refl)
-length-after f (noFit l) area h = refl
-length-after f (refused reason row) area h = refl
-
-drop-after : (f : Findings) (v : Verdict) (area : List ℕ) → drop (length (laidOut f)) (areaAfter f v area) ≡ drop (length (laidOut f)) area
-unfolding areaAfter
-drop-after f (planned w) area = drop-past (laidOut f) (drop (length (laidOut f)) area)
-drop-after f (noFit l) area = refl
-drop-after f (refused reason row) area = refl
-
--- what it is in each case
-module _ (s area : List ℕ) where
-  abbrev f : Findings
-  f = findings (jobOf s)
-
-  pub length-sheet-is : length (laidOut (findings (jobOf s))) ≡ sheetLength (jobOf s)
-  length-sheet-is = length-laidOut f
-
-  sheet-is : {v : Verdict} → verdict s area ≡ v → sheet s area ≡ areaAfter f v area
-  unfolding sheet
-  sheet-is e = ap (λ v. areaAfter f v area) e
-
-  pub if-planned : {w : ℤ} → verdict s area ≡ planned w → sheet s area ≡ laidOut (findings (jobOf s)) ++ drop (length (laidOut (findings (jobOf s)))) area
-  unfolding areaAfter
-  if-planned e = sheet-is e
-
-  pub if-noFit : {l : ℕ} → verdict s area ≡ noFit l → sheet s area ≡ area
-  unfolding areaAfter
-  if-noFit e = sheet-is e
-
-  pub if-refused : {reason row : ℕ} → verdict s area ≡ refused reason row → sheet s area ≡ area
-  unfolding areaAfter
-  if-refused e = sheet-is e
-
-  pub length-sheet : ((w : ℤ) → verdict s area ≡ planned w → sheetLength (jobOf s) ≤ length area) → length (sheet s area) ≡ length area
-  length-sheet h = ap length (sheet-is refl) ∙ length-after f (verdict s area) area (λ w e. omega (arith, h w e, length-sheet-is))
-
-  pub drop-sheet : drop (sheetLength (jobOf s)) (sheet s area) ≡ drop (sheetLength (jobOf s)) area
-  drop-sheet =
-      ap (λ n. drop n (sheet s area)) (sym length-sheet-is)
-      ∙ ap (drop (length (laidOut f))) (sheet-is refl)
-      ∙ drop-after f (verdict s area) area
-      ∙ ap (λ n. drop n area) length-sheet-is

@@ -1,8 +1,9 @@
--- What is demanded of a plan, for the service port, the installer and the buyer in turn. Each demand is over the job's bytes,
--- the area as lent, the verdict, and the area after the call; what the sheet says is read off its bytes.
+-- What is demanded of a plan, for the service port, the installer and the buyer in turn. Each demand is over all that the call is
+-- given, the verdict v, and the areas x after the call; what the sheet says is read off its bytes.
 use mathlib.Core.Path.{_≡_}
 use mathlib.Core.Logic.{_↔_, _⊎_}
 use mathlib.Core.Bool.{cond}
+use mathlib.Core.Option.{Option, none, some}
 use mathlib.Core.List.{List}
 use Prim.Native.Nat.{ℕ, _+_, _*_, _≤_, _<_}
 use lib.Dec.{eqb}
@@ -11,13 +12,29 @@ use lib.IntN.{ℤ, pos, _+ℤ_, _*ℤ_}
 use lib.Signed.{_≤ℤ_, _<ℤ_}
 use Rattle.lists.specs.Table.{table}
 use Rattle.bytes.specs.LittleEndian.{u16, u32, i32, i64}
+use Rattle.jobs.specs.Call.{Areas, Call}
 use Rattle.jobs.specs.Job.{Job, jobOf, variable, equation}
 use Rattle.jobs.specs.Solution.{number, value, IsSolution, objective, Optimal}
 use Rattle.jobs.specs.SheetOffsets.{groupRowsAt}
 use Rattle.jobs.specs.Component.{Joined, IsLead, Numbered}
-use Rattle.jobs.specs.ReasonTable.{ShortFor, Reported}
-use Rattle.jobs.specs.Verdict.{Verdict, planned, noFit, refused}
+use Rattle.jobs.specs.ReasonTable.{Reported}
+use Rattle.jobs.specs.Verdict.{Verdict, planned, noFit, refused, verdict}
+use Rattle.jobs.specs.AreasAfter.{areasAfter}
 use Rattle.jobs.specs.SheetLayout.{answerMark}
+
+-- ---- areas, before and after a call
+
+-- P holds of the bytes of an area, where it is lent
+abbrev pub IfLent : Option (List ℕ) → (List ℕ → Type 0) → Type 0
+IfLent (some area) P = P area
+IfLent none P = Unit {0}
+
+-- lent as before, as long as before, and with the same bytes from byte n on
+abbrev pub KeptFrom : ℕ → Option (List ℕ) → Option (List ℕ) → Type 0
+KeptFrom n (some area) (some after) = (length after ≡ length area) × (drop n after ≡ drop n area)
+KeptFrom n (some area) none = ⊥
+KeptFrom n none (some after) = ⊥
+KeptFrom n none none = Unit {0}
 
 -- ---- what stands on a sheet: document 01, "The sheet"; j says how many rows there are
 
@@ -60,13 +77,12 @@ partOn j after g f = table (λ i. cond (eqb (groupOn after i) g) (f i) (pos 0)) 
 abbrev pub memberOn : Job → List ℕ → ℕ → ℕ → List ℤ
 memberOn j after g k = partOn j after g (λ i. baseOn after i +ℤ stepOn after i *ℤ pos k)
 
--- ---- demand 1, the service port: a faulty job is turned away by the first failing check of the table, and only a faulty one;
--- the area is then untouched, and what lies past the sheet always
-pub record TurnsAway (s area : List ℕ) (v : Verdict) (after : List ℕ) : Type 0 where
-  pub exactly : (reason row : ℕ) → (v ≡ refused reason row) ↔ Reported (ShortFor (jobOf s) area) s reason row
-  pub untouched : (reason row : ℕ) → v ≡ refused reason row → after ≡ area
-  pub inside : length after ≡ length area
-  pub rest : (g : ℕ) (group : ℕ → ℕ) → Numbered (jobOf s) g group → drop (groupRowsAt (jobOf s) + 16 * g) after ≡ drop (groupRowsAt (jobOf s) + 16 * g) area
+-- ---- demand 1, the service port: a faulty call is turned away by the first failing check of the table, and only a faulty one;
+-- every area is then untouched, and what lies past a report always
+pub record TurnsAway (c : Call) (v : Verdict) (x : Areas) : Type 0 where
+  pub exactly : (reason row : ℕ) → (v ≡ refused reason row) ↔ Reported c reason row
+  pub untouched : (reason row : ℕ) → v ≡ refused reason row → x ≡ c .lent
+  pub past-sheet : (g : ℕ) (group : ℕ → ℕ) → Numbered (jobOf (c .job)) g group → KeptFrom (groupRowsAt (jobOf (c .job)) + 16 * g) (c .lent .sheet) (x .sheet)
 
 -- ---- demand 2, the installer
 
@@ -111,20 +127,39 @@ pub record NoneFits (j : Job) (l : ℕ) : Type 0 where
   pub without : (x : List ℤ) → ¬ SolvesGroup j l x
   pub first : (i : ℕ) → IsLead j i → i < l → (x : List ℤ) × SolvesGroup j i x
 
--- the job is not turned away: no reason of the table is reported
-abbrev pub NotTurnedAway : List ℕ → List ℕ → Type 0
-NotTurnedAway s area = (reason row : ℕ) → ¬ Reported (ShortFor (jobOf s) area) s reason row
+-- the call is not turned away: no reason of the table is reported
+abbrev pub NotTurnedAway : Call → Type 0
+NotTurnedAway c = (reason row : ℕ) → ¬ Reported c reason row
 
--- for a job not turned away the verdict is planned or no fit: a fit-out is given when one exists, "no fit" only when none does
-pub record GivesFits (s area : List ℕ) (v : Verdict) (after : List ℕ) : Type 0 where
-  pub one-of : NotTurnedAway s area → ((w : ℤ) × (v ≡ planned w)) ⊎ ((l : ℕ) × (v ≡ noFit l))
-  pub exists : NotTurnedAway s area → (x : List ℤ) → IsSolution (jobOf s) x → (w : ℤ) × (v ≡ planned w)
-  pub given : (w : ℤ) → v ≡ planned w → IsSolution (jobOf s) (numbersOn (jobOf s) after) × (LaidOut (jobOf s) after × FamiliesOn (jobOf s) after)
-  pub no-fit : (l : ℕ) → v ≡ noFit l → NoneFits (jobOf s) l × (after ≡ area)
+-- the numbers on a sheet are a fit-out of the job j, and it shows every other
+pub record FitsOn (j : Job) (after : List ℕ) : Type 0 where
+  pub solution : IsSolution j (numbersOn j after)
+  pub laid-out : LaidOut j after
+  pub families : FamiliesOn j after
+
+-- for a call not turned away the verdict is planned or no fit: a fit-out is given when one exists, "no fit" only when none does
+pub record GivesFits (c : Call) (v : Verdict) (x : Areas) : Type 0 where
+  pub one-of : NotTurnedAway c → ((w : ℤ) × (v ≡ planned w)) ⊎ ((l : ℕ) × (v ≡ noFit l))
+  pub exists : NotTurnedAway c → (y : List ℤ) → IsSolution (jobOf (c .job)) y → (w : ℤ) × (v ≡ planned w)
+  pub given : (w : ℤ) → v ≡ planned w → IfLent (x .sheet) (FitsOn (jobOf (c .job)))
+  pub no-fit : (l : ℕ) → v ≡ noFit l → NoneFits (jobOf (c .job)) l × (x .sheet ≡ c .lent .sheet)
 
 -- ---- demand 3, the buyer: the numbers keep every tie and bound of the whole job, the worth shown is exactly theirs, and every
 -- other solution of the job has less worth, or equal worth and comes later: where the two first differ it has the lower number
-pub record CannotBeBettered (s area : List ℕ) (v : Verdict) (after : List ℕ) : Type 0 where
-  pub optimal : (w : ℤ) → v ≡ planned w → Optimal (jobOf s) (numbersOn (jobOf s) after)
-  pub worth : (w : ℤ) → v ≡ planned w → w ≡ objective (jobOf s) (numbersOn (jobOf s) after)
-  pub shown : (w : ℤ) → v ≡ planned w → worthOn after ≡ w
+
+-- of a sheet of the job j with the worth w
+pub record BestOn (j : Job) (w : ℤ) (after : List ℕ) : Type 0 where
+  pub optimal : Optimal j (numbersOn j after)
+  pub worth : w ≡ objective j (numbersOn j after)
+  pub shown : worthOn after ≡ w
+
+pub record CannotBeBettered (c : Call) (v : Verdict) (x : Areas) : Type 0 where
+  pub best : (w : ℤ) → v ≡ planned w → IfLent (x .sheet) (BestOn (jobOf (c .job)) w)
+
+-- ---- all that is promised of a planning call: verdict and areas are those of the definitions, and keep the demands
+pub record Plans (c : Call) (v : Verdict) (x : Areas) : Type 0 where
+  pub outcome : v ≡ verdict c
+  pub areas : x ≡ areasAfter c
+  pub refusals : TurnsAway c v x
+  pub fits : GivesFits c v x
+  pub best : CannotBeBettered c v x

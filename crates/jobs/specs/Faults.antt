@@ -1,4 +1,4 @@
--- The first fault of a job, as a function that computes, and what the job check answers.
+-- The first fault of a call, as a function that computes, and what the job check answers.
 use mathlib.Core.Path.{_≡_}
 use mathlib.Core.Logic.{_↔_}
 use mathlib.Core.Option.{Option, none, some}
@@ -16,7 +16,10 @@ use Rattle.runs.proofs.Refusals.{in-limits-iff}
 use Rattle.bytes.specs.LittleEndian.{u32}
 use Rattle.jobs.specs.Decide.{tested, below?, atMost?, equal?, within?, by, both, either, not?, list?, firstOf}
 use Rattle.jobs.specs.Job.{Variable, Equation, jobOf, form, variableCount, equationCount, equationRowAt, variable, equation}
-use Rattle.jobs.specs.ReasonTable.{mark, Header, InRange, Coefficients, Misnamed, Broken, NoArea, checks, Reported}
+use Rattle.jobs.specs.SheetOffsets.{groupRowsAt}
+use Rattle.jobs.specs.Call.{Call, lendingNothing}
+use Rattle.jobs.specs.Component.{leads, componentCount}
+use Rattle.jobs.specs.ReasonTable.{mark, Header, InRange, Coefficients, Misnamed, Shorter, Broken, checks, Reported, Faultless}
 
 -- ---- each condition of the table can be decided
 abbrev pub header? : (s : List ℕ) → Dec (Header s)
@@ -39,21 +42,29 @@ coefficients? e = tested (carryLimits (form e)) (in-limits-iff (form e))
 abbrev pub misnamed? : (n : ℕ) (e : Equation) → Dec (Misnamed n e)
 misnamed? n e = either (atMost? n (e .left)) (either (atMost? n (e .right)) (equal? (e .left) (e .right)))
 
-abbrev pub broken? : {short : Type 0} → Dec short → (s : List ℕ) (r : Reason) → Dec (Broken short s r)
-broken? d s ShortJob = below? (length s) 24
-broken? d s WrongMark = not? (list? (take 4 s) mark)
-broken? d s TooMany = either (below? 256 (variableCount s)) (below? 1024 (equationCount s))
-broken? d s WrongHeader = not? (header? s)
-broken? d s (VariableRange i) = both (below? i (variableCount s)) (not? (inRange? (variable (jobOf s) i)))
-broken? d s (EquationVariables k) = both (below? k (equationCount s)) (misnamed? (variableCount s) (equation (jobOf s) k))
-broken? d s (EquationRange k) = both (below? k (equationCount s)) (not? (coefficients? (equation (jobOf s) k)))
-broken? d s ShortArea = d
-broken? d s WrongArgument = no (λ h. h)
+abbrev pub shorter? : (area : Option (List ℕ)) (n : ℕ) → Dec (Shorter area n)
+shorter? (some area) n = below? (length area) n
+shorter? none n = no (λ h. h)
+
+abbrev pub broken? : (g : ℕ) (c : Call) (r : Reason) → Dec (Broken g c r)
+broken? g c ShortJob = below? (length (c .job)) 24
+broken? g c WrongMark = not? (list? (take 4 (c .job)) mark)
+broken? g c TooMany = either (below? 256 (variableCount (c .job))) (below? 1024 (equationCount (c .job)))
+broken? g c WrongHeader = not? (header? (c .job))
+broken? g c (VariableRange i) = both (below? i (variableCount (c .job))) (not? (inRange? (variable (jobOf (c .job)) i)))
+broken? g c (EquationVariables k) = both (below? k (equationCount (c .job))) (misnamed? (variableCount (c .job)) (equation (jobOf (c .job)) k))
+broken? g c (EquationRange k) = both (below? k (equationCount (c .job))) (not? (coefficients? (equation (jobOf (c .job)) k)))
+broken? g c ShortArea = shorter? (c .lent .sheet) (groupRowsAt (jobOf (c .job)) + 16 * g)
+broken? g c WrongArgument = no (λ h. h)
+
+-- with the number of groups that the job has (proofs/Numbering.antt: no other has a numbering, `groups-are`)
+abbrev pub breaks? : (c : Call) (r : Reason) → Dec (Broken (componentCount (jobOf (c .job))) c r)
+breaks? c = broken? (componentCount (jobOf (c .job))) c
 
 -- the first of the checks that is broken (proofs/Faults.antt: exactly the one that `IsFirst`)
-unfoldable pub firstBroken : {short : Type 0} → Dec short → List ℕ → Option Reason
-unfolding firstOf checks jobOf
-firstBroken d s = firstOf (broken? d s) (checks s)
+unfoldable pub firstBroken : Call → Option Reason
+unfolding firstOf checks jobOf leads
+firstBroken c = firstOf (breaks? c) (checks c)
 
 -- ---- what the job check answers: "The job check reports as the planner does through reason 7, and otherwise accepts."
 pub data Answer : Type 0 where
@@ -72,14 +83,11 @@ faultOf (Refused r) = some r
 abbrev pub answerOf : Checked → Answer
 answerOf c = answered (faultOf c)
 
-abbrev pub noArea? : Dec NoArea
-noArea? = no (λ h. h)
-
 unfoldable pub checked : List ℕ → Answer
 unfolding firstBroken
-checked s = answered (firstBroken noArea? s)
+checked s = answered (firstBroken (lendingNothing s))
 
 -- demand 1 for the job check, in the words of the table: refused exactly when a rule is broken, by the first that is
 pub record ChecksExactly (s : List ℕ) (x : Answer) : Type 0 where
-  pub refusal : (reason row : ℕ) → (x ≡ refused reason row) ↔ Reported NoArea s reason row
-  pub acceptance : (x ≡ accepted) ↔ ((r : Reason) → ¬ Broken NoArea s r)
+  pub refusal : (reason row : ℕ) → (x ≡ refused reason row) ↔ Reported (lendingNothing s) reason row
+  pub acceptance : (x ≡ accepted) ↔ Faultless (lendingNothing s)

@@ -1,6 +1,8 @@
 -- What a job is, when it is turned away, what a plan of it is, and what is demanded of one. Read in this order. To be believed is
 -- all of it but the decisions in Decide and Faults, Lawful, Bounds, JobBytes, and Vectors, which is theorems.
 
+-- all that a call is given
+pub mod Call
 -- the bytes of a job as variables and equations
 pub mod Job
 -- of two fit-outs of equal worth, which comes first
@@ -25,8 +27,8 @@ pub mod Faults
 pub mod Verdict
 -- the layout of the sheet
 pub mod SheetLayout
--- the answer area after a plan
-pub mod Sheet
+-- every area after a call
+pub mod AreasAfter
 -- the three demands
 pub mod Demands
 -- a job that the table does not turn away, as inner functions ask for it

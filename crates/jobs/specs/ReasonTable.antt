@@ -1,6 +1,7 @@
--- Document 01, the table of reasons: when a job is turned away, and with which reason and row.
+-- Document 01, the table of reasons: when a call is turned away, and with which reason and row.
 use mathlib.Core.Path.{_≡_}
 use mathlib.Core.Logic.{_⊎_, _≢_}
+use mathlib.Core.Option.{Option, none, some}
 use mathlib.Core.List.{List, [], _∷_, _++_, flatMap}
 use Prim.Native.Nat.{ℕ, _+_, _*_, _≤_, _<_}
 use lib.ListN.{length, take}
@@ -15,7 +16,8 @@ use Rattle.runs.specs.Workings.{CarryLimits}
 use Rattle.bytes.specs.LittleEndian.{unsigned, u32}
 use Rattle.jobs.specs.SheetOffsets.{groupRowsAt}
 use Rattle.jobs.specs.Component.{Numbered}
-use Rattle.jobs.specs.Job.{Variable, Equation, Job, jobOf, form, variableCount, equationCount, equationRowAt, variable, equation}
+use Rattle.jobs.specs.Call.{Call}
+use Rattle.jobs.specs.Job.{Variable, Equation, jobOf, form, variableCount, equationCount, equationRowAt, variable, equation}
 
 -- ---- the conditions, line by line
 
@@ -45,25 +47,23 @@ Coefficients e = CarryLimits (form e)
 abbrev pub Misnamed : ℕ → Equation → Type 0
 Misnamed n e = (n ≤ e .left) ⊎ ((n ≤ e .right) ⊎ (e .left ≡ e .right))
 
--- the rule of a reason is broken at its row; what it is for the answer area to be too short is said by the caller
-abbrev pub Broken : Type 0 → List ℕ → Reason → Type 0
-Broken short s ShortJob = length s < 24
-Broken short s WrongMark = take 4 s ≢ mark
-Broken short s TooMany = (256 < variableCount s) ⊎ (1024 < equationCount s)
-Broken short s WrongHeader = ¬ Header s
-Broken short s (VariableRange i) = (i < variableCount s) × (¬ InRange (variable (jobOf s) i))
-Broken short s (EquationVariables k) = (k < equationCount s) × Misnamed (variableCount s) (equation (jobOf s) k)
-Broken short s (EquationRange k) = (k < equationCount s) × (¬ Coefficients (equation (jobOf s) k))
-Broken short s ShortArea = short
-Broken short s WrongArgument = ⊥
+-- an area is lent, and has fewer than n bytes
+abbrev pub Shorter : Option (List ℕ) → ℕ → Type 0
+Shorter (some area) n = length area < n
+Shorter none n = ⊥
 
--- for the planner, which is lent an area: "shorter than 24 + 16n + 16g"
-abbrev pub ShortFor : Job → List ℕ → Type 0
-ShortFor j area = (g : ℕ) × ((group : ℕ → ℕ) × (Numbered j g group × (length area < groupRowsAt j + 16 * g)))
-
--- for the job check, to which no area is lent
-abbrev pub NoArea : Type 0
-NoArea = ⊥
+-- the rule of a reason is broken at its row, in a call whose job has g groups
+abbrev pub Broken : ℕ → Call → Reason → Type 0
+Broken g c ShortJob = length (c .job) < 24
+Broken g c WrongMark = take 4 (c .job) ≢ mark
+Broken g c TooMany = (256 < variableCount (c .job)) ⊎ (1024 < equationCount (c .job))
+Broken g c WrongHeader = ¬ Header (c .job)
+Broken g c (VariableRange i) = (i < variableCount (c .job)) × (¬ InRange (variable (jobOf (c .job)) i))
+Broken g c (EquationVariables k) = (k < equationCount (c .job)) × Misnamed (variableCount (c .job)) (equation (jobOf (c .job)) k)
+Broken g c (EquationRange k) = (k < equationCount (c .job)) × (¬ Coefficients (equation (jobOf (c .job)) k))
+-- "shorter than 24 + 16n + 16g"
+Broken g c ShortArea = Shorter (c .lent .sheet) (groupRowsAt (jobOf (c .job)) + 16 * g)
+Broken g c WrongArgument = ⊥
 
 -- ---- the order of the table is that of this list: "all count rows come before equation rows, and in one row 6 comes before 7.
 -- Equation rows are taken in turn"
@@ -77,9 +77,12 @@ unfoldable pub rowChecks : List ℕ → List Reason
 unfolding table flatMap unsigned
 rowChecks s = table VariableRange (variableCount s) ++ flatMap equationChecks (upTo (equationCount s))
 
-unfoldable pub checks : List ℕ → List Reason
+abbrev pub areaChecks : List Reason
+areaChecks = ShortArea ∷ []
+
+unfoldable pub checks : Call → List Reason
 unfolding rowChecks
-checks s = headerChecks ++ (rowChecks s ++ ShortArea ∷ [])
+checks c = headerChecks ++ (rowChecks (c .job) ++ areaChecks)
 
 -- P holds of x, which stands in a list behind others of which P does not hold
 pub record First {A : Type 0} (P : A → Type 0) (xs : List A) (x : A) : Type 0 where
@@ -90,9 +93,13 @@ pub record First {A : Type 0} (P : A → Type 0) (xs : List A) (x : A) : Type 0 
   pub holds : P x
 
 -- "The row reported is the lowest one that breaks a rule": r is broken, and no check before it
-abbrev pub IsFirst : Type 0 → List ℕ → Reason → Type 0
-IsFirst short s = First (Broken short s) (checks s)
+abbrev pub IsFirst : ℕ → Call → Reason → Type 0
+IsFirst g c = First (Broken g c) (checks c)
 
--- reported with this number and row
-abbrev pub Reported : Type 0 → List ℕ → ℕ → ℕ → Type 0
-Reported short s reason row = (r : Reason) × ((numberOf r ≡ reason) × ((rowOf r ≡ row) × IsFirst short s r))
+-- reported with this number and row, where g is the number of the job's groups
+abbrev pub Reported : Call → ℕ → ℕ → Type 0
+Reported c reason row = (g : ℕ) × ((group : ℕ → ℕ) × (Numbered (jobOf (c .job)) g group × ((r : Reason) × ((numberOf r ≡ reason) × ((rowOf r ≡ row) × IsFirst g c r)))))
+
+-- no rule is broken
+abbrev pub Faultless : Call → Type 0
+Faultless c = (g : ℕ) (group : ℕ → ℕ) → Numbered (jobOf (c .job)) g group → (r : Reason) → ¬ Broken g c r

@@ -10,6 +10,7 @@ use Rattle.lists.specs.Table.{table}
 use Rattle.lists.specs.Lexicographic.{now, later}
 use Rattle.lists.proofs.Maps.{same-values}
 use Rattle.bytes.specs.LittleEndian.{u16, u32}
+use Rattle.jobs.specs.Call.{Areas, Call, areasOf, callOf}
 use Rattle.jobs.specs.Job.{Job, jobOf}
 use Rattle.jobs.specs.TieBreak.{Earlier, earliestFirst}
 use Rattle.jobs.specs.Solution.{number, solutions, objective, best}
@@ -18,7 +19,7 @@ use Rattle.jobs.specs.Component.{lowest, leads, componentCount, componen
 use Rattle.jobs.specs.Family.{componentJob, base, step, chosen, slope}
 use Rattle.jobs.specs.Verdict.{Verdict, planned, noFit, refused, verdict}
 use Rattle.jobs.specs.SheetLayout.{answerMark}
-use Rattle.jobs.specs.Sheet.{sheet}
+use Rattle.jobs.specs.AreasAfter.{areasAfter}
 use Rattle.jobs.specs.JobBytes.{plus, minus, header, count, plain, equationBytes, total, difference}
 use Rattle.jobs.specs.Demands.{worthOn, baseOn, stepOn, groupOn, zeroOn, fitsOn, chosenOn, gainOn, numbersOn, memberOn}
 
@@ -296,18 +297,22 @@ vectors =
     untouched (header 2 2 48 88 ++ plain 3 ++ plain 3 ++ total 0 1 3 ++ equationBytes 0 2 (plus 0) (plus 1) 3) 8 (refused 6 1) ∷
     untouched (header 2 2 48 88 ++ plain 3 ++ plain 3 ++ equationBytes 0 1 (plus 0) (plus 1) 3 ++ total 1 1 3) 8 (refused 7 0) ∷ []
 
-abbrev given : Vector → Verdict × List ℕ
-given v = (verdict (v .job) (v .area), sheet (v .job) (v .area))
+-- the call that lends it
+abbrev pub called : Vector → Call
+called v = callOf (v .job) (areasOf (v .area))
 
-abbrev expected : Vector → Verdict × List ℕ
-expected v = (v .verdict, v .after)
+abbrev given : Vector → Verdict × Areas
+given v = (verdict (called v), areasAfter (called v))
+
+abbrev expected : Vector → Verdict × Areas
+expected v = (v .verdict, areasOf (v .after))
 
 computed : map given vectors ≡ map expected vectors
-unfolding verdict sheet table
+unfolding verdict areasAfter table
 computed = refl
 
 -- the definitions give what was worked out, at each of them
-pub worked : (v : Vector) → v ∈ vectors → (verdict (v .job) (v .area) ≡ v .verdict) × (sheet (v .job) (v .area) ≡ v .after)
+pub worked : (v : Vector) → v ∈ vectors → (verdict (called v) ≡ v .verdict) × (areasAfter (called v) ≡ areasOf (v .after))
 worked v h = let e = same-values given expected computed h in (ap (λ p. p .0) e, ap (λ p. p .1) e)
 
 -- ---- the tie-break, at lists of three
@@ -374,7 +379,7 @@ defined v =
     }
 
 read-computed : map onSheet fitted ≡ map defined fitted
-unfolding verdict sheet table
+unfolding verdict areasAfter table
 read-computed = refl
 
 pub read-off : (v : Vector) → v ∈ fitted → onSheet v ≡ defined v

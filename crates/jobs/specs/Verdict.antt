@@ -1,17 +1,15 @@
 -- Document 01, "The sheet": "The outcome is one of: planned, with the worth; no fit, with the lowest count of the first group
--- that has no fit-out; refused, with a reason and a row." It is settled by the job's bytes and the area as lent.
+-- that has no fit-out; refused, with a reason and a row." It is settled by all that the call is given.
 use mathlib.Core.Option.{Option, none, some}
-use mathlib.Core.List.{List}
-use Prim.Native.Nat.{ℕ, _<_}
-use lib.ListN.{length}
+use Prim.Native.Nat.{ℕ}
 use lib.IntN.{ℤ}
 use Rattle.reasons.specs.declared.Reason.{Reason}
 use Rattle.reasons.specs.Numbers.{numberOf, rowOf}
-use Rattle.jobs.specs.Decide.{below?, equal?, firstOf}
+use Rattle.jobs.specs.Decide.{equal?, firstOf}
+use Rattle.jobs.specs.Call.{Call}
 use Rattle.jobs.specs.Job.{Job, jobOf}
 use Rattle.jobs.specs.Faults.{firstBroken}
 use Rattle.jobs.specs.Solution.{objective, best}
-use Rattle.jobs.specs.SheetOffsets.{sheetLength}
 use Rattle.jobs.specs.Component.{leads}
 use Rattle.jobs.specs.Family.{componentJob, fits}
 
@@ -31,10 +29,10 @@ outcome (some r) l worth = refused (numberOf r) (rowOf r)
 outcome none (some l) worth = noFit l
 outcome none none worth = planned worth
 
--- reason 8, as a test that computes (proofs/Numbering.antt: it is what the table says, `short-iff`)
-abbrev pub short? : (j : Job) (area : List ℕ) → Dec (length area < sheetLength j)
-short? j area = below? (length area) (sheetLength j)
+-- of a job that is not turned away
+abbrev pub fitting : Job → Verdict
+fitting j = outcome none (firstWithout j) (objective j (best j))
 
-unfoldable pub verdict : List ℕ → List ℕ → Verdict
-unfolding firstBroken firstWithout objective best jobOf leads
-verdict s area = let j = jobOf s in outcome (firstBroken (short? j area) s) (firstWithout j) (objective j (best j))
+unfoldable pub verdict : Call → Verdict
+unfolding firstBroken firstWithout objective best jobOf
+verdict c = let j = jobOf (c .job) in outcome (firstBroken c) (firstWithout j) (objective j (best j))

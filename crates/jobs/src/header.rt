@@ -5,10 +5,11 @@ ghost use mathlib.Core.Bool.{true};
 ghost use mathlib.Core.Logic.{_↔_};
 ghost use Prim.Native.Nat.{_≤_};
 ghost use lib.ListN.{length, take};
+ghost use Rattle.jobs.specs.Call.{lendingNothing};
 ghost use Rattle.jobs.specs.Job.{variableCount, equationCount};
 ghost use Rattle.jobs.specs.ReasonTable.{mark, Header, headerChecks};
 ghost use Rattle.jobs.specs.Decide.{firstOf};
-ghost use Rattle.jobs.specs.Faults.{broken?, noArea?, faultOf};
+ghost use Rattle.jobs.specs.Faults.{breaks?, faultOf};
 use crate::Checked;
 use reasons::Reason;
 
@@ -30,7 +31,7 @@ pub fn equation_count(job: &[u8]) -> usize
 
 /// The first fault of the header, of reasons 1 to 4.
 pub(crate) fn check(job: &[u8]) -> Checked
-    ensures { λ r. ⌜ faultOf r ≡ firstOf (broken? noArea? (now (job .entry))) headerChecks ⌝ }
+    ensures { λ r. ⌜ faultOf r ≡ firstOf (breaks? (lendingNothing (now (job .entry)))) headerChecks ⌝ }
 {
     if job.len() < 24 {
         return Checked::Refused(Reason::ShortJob);

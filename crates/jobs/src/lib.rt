@@ -6,10 +6,11 @@ ghost use mathlib.Core.Path.{_≡_};
 ghost use mathlib.Core.List.{flatMap};
 ghost use Rattle.lists.specs.Table.{table, upTo};
 ghost use Rattle.reasons.specs.declared.Reason.the-variants.{VariableRange};
+ghost use Rattle.jobs.specs.Call.{lendingNothing};
 ghost use Rattle.jobs.specs.Job.{RowsInside, variableCount, equationCount};
 ghost use Rattle.jobs.specs.Decide.{firstOf};
 ghost use Rattle.jobs.specs.ReasonTable.{equationChecks, rowChecks};
-ghost use Rattle.jobs.specs.Faults.{broken?, noArea?, faultOf, answerOf, checked, ChecksExactly};
+ghost use Rattle.jobs.specs.Faults.{breaks?, faultOf, answerOf, checked, ChecksExactly};
 use reasons::Reason;
 
 // the rows of variables and of equations
@@ -60,7 +61,7 @@ pub fn check(job: &[u8]) -> Checked
 // The first fault of the rows, of reasons 5 to 7: all variables' rows come before the equations' rows.
 fn check_rows(job: &[u8]) -> Checked
     requires { ⌜ RowsInside (now job) ⌝ }
-    ensures { λ r. ⌜ faultOf r ≡ firstOf (broken? noArea? (now (job .entry))) (rowChecks (now (job .entry))) ⌝ }
+    ensures { λ r. ⌜ faultOf r ≡ firstOf (breaks? (lendingNothing (now (job .entry)))) (rowChecks (now (job .entry))) ⌝ }
 {
     let n = header::variable_count(job);
     let m = header::equation_count(job);
@@ -75,7 +76,7 @@ fn check_rows(job: &[u8]) -> Checked
 fn check_variables(job: &[u8], n: usize) -> Checked
     requires { ⌜ RowsInside (now job) ⌝ }
     requires { ⌜ n ≡ variableCount (now job) ⌝ }
-    ensures { λ r. ⌜ faultOf r ≡ firstOf (broken? noArea? (now (job .entry))) (table VariableRange n) ⌝ }
+    ensures { λ r. ⌜ faultOf r ≡ firstOf (breaks? (lendingNothing (now (job .entry)))) (table VariableRange n) ⌝ }
 {
     let mut i: usize = 0;
     loop {
@@ -94,7 +95,7 @@ fn check_equations(job: &[u8], n: usize, m: usize) -> Checked
     requires { ⌜ RowsInside (now job) ⌝ }
     requires { ⌜ n ≡ variableCount (now job) ⌝ }
     requires { ⌜ m ≡ equationCount (now job) ⌝ }
-    ensures { λ r. ⌜ faultOf r ≡ firstOf (broken? noArea? (now (job .entry))) (flatMap equationChecks (upTo m)) ⌝ }
+    ensures { λ r. ⌜ faultOf r ≡ firstOf (breaks? (lendingNothing (now (job .entry)))) (flatMap equationChecks (upTo m)) ⌝ }
 {
     let mut k: usize = 0;
     loop {

@@ -1,6 +1,7 @@
 -- The contract of `plan` determines its answer: any two answers that meet it for one call have one outcome and leave the same bytes in
 -- the area (`determined`). So where the planner is changed and its contract proved again, every outcome and every byte written stays.
 use mathlib.Core.Path.{_≡_, refl, sym, _∙_, ap}
+use mathlib.Core.Option.{Option·some-injective}
 use mathlib.Core.List.{List}
 use Prim.Native.Nat.{ℕ}
 use borrow.Fn.Kinds.{Dens, endedOf}
@@ -8,6 +9,7 @@ use contract.Lifetimes.{Lfts}
 use denote.Ref.{now}
 use denote.Triple.Clauses.{AtExit}
 use Rattle.reasons.proofs.Numbers.{reasonOf, reason-is}
+use Rattle.jobs.specs.Call.{areasOf}
 use Rattle.jobs.specs.Verdict.{Verdict, planned, noFit, refused}
 use Rattle.planner.specs.Outcome.{Outcome, verdictOf}
 use Rattle.planner.specs.declared.Outcome.the-variants.{Planned, NoFit, Refused}
@@ -25,6 +27,10 @@ outcome-is (Planned objective) = refl
 outcome-is (NoFit l) = refl
 outcome-is (Refused r) = ap Refused (reason-is r)
 
+-- ---- areas that are lent are told by their bytes
+lent-same : {s t : List ℕ} → areasOf s ≡ areasOf t → s ≡ t
+lent-same {s} {t} e = Option·some-injective s t (ap (λ x. x .sheet) e)
+
 -- ---- what a call of `plan` is given, what it leaves, and all that its contract promises of these and of its answer; κs are the
 -- lifetimes of its two references
 module _ (κs : Lfts 2) where
@@ -41,4 +47,4 @@ module _ (κs : Lfts 2) where
   Promised = plan-reads.Post κs
 
   pub determined : (call : Given) (r s : Outcome) (x y : Left) → Promised call r x → Promised call s y → (r ≡ s) × (areaIn x ≡ areaIn y)
-  determined call r s x y p q = (sym (outcome-is r) ∙ ap outcomeOf (p .0 ∙ sym (q .0)) ∙ outcome-is s, p .1 .0 ∙ sym (q .1 .0))
+  determined call r s x y p q = (sym (outcome-is r) ∙ ap outcomeOf (p .outcome ∙ sym (q .outcome)) ∙ outcome-is s, lent-same (p .areas ∙ sym (q .areas)))

@@ -5,13 +5,18 @@
 ghost use mathlib.Core.Path.{_≡_};
 ghost use Prim.Native.Nat.{_+_, _*_, _≤_};
 ghost use lib.ListN.{length};
+ghost use Rattle.jobs.specs.Call.{areasOf, callOf};
+ghost use Rattle.jobs.specs.Job.{jobOf, variableCount, equationCount};
 ghost use Rattle.jobs.specs.Solution.{number};
+ghost use Rattle.jobs.specs.Component.{componentCount};
+ghost use Rattle.jobs.specs.SheetOffsets.{sheetLength};
 ghost use Rattle.jobs.specs.Lawful.{Lawful};
 ghost use Rattle.jobs.specs.Faults.{accepted, checked};
-ghost use Rattle.jobs.specs.Verdict.{planned, verdict};
+ghost use Rattle.jobs.specs.Findings.{findings};
+ghost use Rattle.jobs.specs.Verdict.{planned, fitting, verdict};
 ghost use Rattle.jobs.specs.SheetLayout.{laidOut};
-ghost use Rattle.jobs.specs.Sheet.{sheet};
-ghost use Rattle.jobs.specs.Demands.{TurnsAway, GivesFits, CannotBeBettered};
+ghost use Rattle.jobs.specs.AreasAfter.{sheetAfter, areasAfter};
+ghost use Rattle.jobs.specs.Demands.{Plans};
 ghost use Rattle.families.specs.ModelFindings.{leadsBy, findingsBy};
 ghost use Rattle.solver.specs.StateArrays.{labelIn, runIn};
 ghost use Rattle.solver.specs.Labels.{Lowest};
@@ -45,11 +50,7 @@ pub enum Outcome {
 /// Plans a job: any bytes, and any answer area. The verdict and the area afterwards are those of the definitions, and they keep
 /// the three demands: of the service port, of the installer and of the buyer.
 pub fn plan(job: &[u8], area: &mut [u8]) -> Outcome
-    ensures outcome { λ r. ⌜ verdictOf r ≡ verdict (now (job .entry)) (now (area .entry)) ⌝ }
-    ensures sheet { λ _. ⌜ now (area .exit) ≡ sheet (now (job .entry)) (now (area .entry)) ⌝ }
-    ensures refusals { λ r. ⌜ TurnsAway (now (job .entry)) (now (area .entry)) (verdictOf r) (now (area .exit)) ⌝ }
-    ensures fits { λ r. ⌜ GivesFits (now (job .entry)) (now (area .entry)) (verdictOf r) (now (area .exit)) ⌝ }
-    ensures best { λ r. ⌜ CannotBeBettered (now (job .entry)) (now (area .entry)) (verdictOf r) (now (area .exit)) ⌝ }
+    ensures { λ r. ⌜ Plans (callOf (now (job .entry)) (areasOf (now (area .entry)))) (verdictOf r) (areasOf (now (area .exit))) ⌝ }
 {
     let checked = jobs::check(job);
     match checked {
@@ -62,8 +63,8 @@ pub fn plan(job: &[u8], area: &mut [u8]) -> Outcome
 fn fitted(job: &[u8], area: &mut [u8]) -> Outcome
     requires { ⌜ Lawful (now job) ⌝ }
     requires { ⌜ checked (now job) ≡ accepted ⌝ }
-    ensures { λ r. ⌜ verdictOf r ≡ verdict (now (job .entry)) (now (area .entry)) ⌝ }
-    ensures { λ _. ⌜ now (area .exit) ≡ sheet (now (job .entry)) (now (area .entry)) ⌝ }
+    ensures { λ r. ⌜ verdictOf r ≡ verdict (callOf (now (job .entry)) (areasOf (now (area .entry)))) ⌝ }
+    ensures { λ _. ⌜ areasOf (now (area .exit)) ≡ areasAfter (callOf (now (job .entry)) (areasOf (now (area .entry)))) ⌝ }
 {
     let n = header::variable_count(job);
     let m = header::equation_count(job);
@@ -72,6 +73,19 @@ fn fitted(job: &[u8], area: &mut [u8]) -> Outcome
     if area.len() < sheet::length(n, g) {
         return Outcome::Refused(Reason::ShortArea);
     }
+    solved(job, area, n, m, g)
+}
+
+// The plan of a job with n variables in g components and m equations, into an area that is long enough.
+fn solved(job: &[u8], area: &mut [u8], n: usize, m: usize, g: usize) -> Outcome
+    requires { ⌜ Lawful (now job) ⌝ }
+    requires { ⌜ n ≡ variableCount (now job) ⌝ }
+    requires { ⌜ m ≡ equationCount (now job) ⌝ }
+    requires { ⌜ g ≡ componentCount (jobOf (now job)) ⌝ }
+    requires { ⌜ sheetLength (jobOf (now job)) ≤ length (now area) ⌝ }
+    ensures { λ r. ⌜ verdictOf r ≡ fitting (jobOf (now (job .entry))) ⌝ }
+    ensures { λ _. ⌜ now (area .exit) ≡ sheetAfter (findings (jobOf (now (job .entry)))) (fitting (jobOf (now (job .entry)))) (now (area .entry)) ⌝ }
+{
     let rows = variables::read(job, n);
     let bounds = rows.bounds;
     let weights = rows.weights;

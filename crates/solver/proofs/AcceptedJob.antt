@@ -12,10 +12,11 @@ use Rattle.lists.proofs.Keep.{keep-same}
 use Rattle.lists.proofs.Table.{in-upTo}
 use Rattle.jobs.specs.declared.Checked.{Checked}
 use Rattle.jobs.specs.declared.Checked.the-variants.{Accepted}
-use Rattle.jobs.specs.Faults.{answerOf, noArea?, ChecksExactly}
+use Rattle.jobs.specs.Call.{lendingNothing}
+use Rattle.jobs.specs.Faults.{answerOf, ChecksExactly}
 use Rattle.jobs.specs.Job.{jobOf, variableCount, equationCount}
 use Rattle.jobs.specs.Component.{lowest, lowestBy, leads, componentCount}
-use Rattle.jobs.proofs.Faults.{sound-iff}
+use Rattle.jobs.proofs.Faults.{faultless-iff}
 use Rattle.jobs.specs.Lawful.{Lawful}
 use Rattle.jobs.proofs.JobOf.{variables-of, equations-of}
 use Rattle.jobs.proofs.Lawful.{lawful}
@@ -31,7 +32,7 @@ use Rattle.solver.proofs.OwnBounds.{own-bounds, own-bounded}
 
 -- it is lawful
 pub accepts : (s : List ℕ) (c : Checked) → ChecksExactly s (answerOf c) → c ≡ Accepted → Lawful s
-accepts s c x a = lawful noArea? s (sound-iff s noArea? .1 (x .acceptance .0 (ap answerOf a)))
+accepts s c x a = lawful (lendingNothing s) (faultless-iff (lendingNothing s) .1 (x .acceptance .0 (ap answerOf a)))
 
 -- n and m are the job's numbers of variables and equations
 module _ (s : List ℕ) (n m : ℕ) (p : n ≡ variableCount s) (q : m ≡ equationCount s) where

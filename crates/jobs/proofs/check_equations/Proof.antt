@@ -9,8 +9,9 @@ use native.Mathlib.Omega.{arith}
 use Rattle.lists.specs.Table.{upTo}
 use Rattle.jobs.specs.Job.{Equation, jobOf, variableCount, equation}
 use Rattle.jobs.specs.ReasonTable.{Misnamed, Coefficients, equationChecks}
+use Rattle.jobs.specs.Call.{lendingNothing}
 use Rattle.jobs.specs.Decide.{firstOf}
-use Rattle.jobs.specs.Faults.{broken?, noArea?}
+use Rattle.jobs.specs.Faults.{breaks?}
 use Rattle.jobs.proofs.Branches.{passed, failed}
 use Rattle.jobs.proofs.RowChecks.{ofEquations, equations-start, equations-end, names-here, range-here, equation-past}
 use borrow.Author.Needs.{needs}
@@ -26,7 +27,7 @@ module _ {n m : ℕ} {e f : Equation} {t : Bool} (p : n ≡ m) (q : e ≡ f) (te
   named h k = false≢true (sym h ∙ test .1 (rw (p, q) k))
 
 abbrev Inv-loop : tie.InvT-loop
-Inv-loop job n m k₀ k = (k ≤ m) × (firstOf (broken? noArea? job) (flatMap equationChecks (upTo m)) ≡ ofEquations job k m)
+Inv-loop job n m k₀ k = (k ≤ m) × (firstOf (breaks? (lendingNothing job)) (flatMap equationChecks (upTo m)) ≡ ofEquations job k m)
 
 abbrev μ-loop : tie.MeasureT-loop
 μ-loop job n m k₀ k = m - k

@@ -10,9 +10,10 @@ use Rattle.lists.specs.Table.{table, upTo}
 use Rattle.jobs.specs.declared.Checked.{Checked}
 use Rattle.jobs.specs.declared.Checked.the-variants.{Accepted, Refused}
 use Rattle.jobs.specs.Job.{variableCount, equationCount}
+use Rattle.jobs.specs.Call.{lendingNothing}
 use Rattle.jobs.specs.Decide.{firstOf}
 use Rattle.jobs.specs.ReasonTable.{equationChecks, rowChecks}
-use Rattle.jobs.specs.Faults.{broken?, noArea?, faultOf}
+use Rattle.jobs.specs.Faults.{breaks?, faultOf}
 use Rattle.jobs.proofs.FirstOf.{first-past, first-stays}
 use borrow.Author.Needs.{needs}
 use Rattle.jobs.proofs.check_rows.Statement.{statement}
@@ -21,7 +22,7 @@ use Rattle.jobs.proofs.check_rows.Tie as tie
 -- the fault of the rows, from what is answered of the variables' rows, and then of the equations' rows
 module _ (s : List ℕ) (n m : ℕ) (n-is : n ≡ variableCount s) (m-is : m ≡ equationCount s) where
   abbrev first : List Reason → Option Reason
-  first = firstOf (broken? noArea? s)
+  first = firstOf (breaks? (lendingNothing s))
 
   abbrev variables : List Reason
   variables = table VariableRange (variableCount s)
@@ -31,11 +32,11 @@ module _ (s : List ℕ) (n m : ℕ) (n-is : n ≡ variableCount s) (m-is : m ≡
 
   refused : {v : Checked} {r : Reason} → faultOf v ≡ first (table VariableRange n) → v ≡ Refused r → some r ≡ first (rowChecks s)
   unfolding rowChecks
-  refused h e = sym (first-stays (broken? noArea? s) variables _ (of-variables h e))
+  refused h e = sym (first-stays (breaks? (lendingNothing s)) variables _ (of-variables h e))
 
   accepted : {v : Checked} {o : Option Reason} → faultOf v ≡ first (table VariableRange n) → v ≡ Accepted → o ≡ first (flatMap equationChecks (upTo m)) → o ≡ first (rowChecks s)
   unfolding rowChecks
-  accepted h e q = q ∙ ap (λ m. first (flatMap equationChecks (upTo m))) m-is ∙ sym (first-past (broken? noArea? s) variables _ (of-variables h e))
+  accepted h e q = q ∙ ap (λ m. first (flatMap equationChecks (upTo m))) m-is ∙ sym (first-past (breaks? (lendingNothing s)) variables _ (of-variables h e))
 
 returns : tie.Need-returns
 returns c =

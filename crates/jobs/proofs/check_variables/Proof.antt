@@ -6,8 +6,9 @@ use native.Mathlib.Omega.{arith}
 use Rattle.reasons.specs.declared.Reason.the-variants.{VariableRange}
 use Rattle.lists.specs.Table.{table}
 use Rattle.jobs.specs.ReasonTable.{InRange}
+use Rattle.jobs.specs.Call.{lendingNothing}
 use Rattle.jobs.specs.Decide.{firstOf}
-use Rattle.jobs.specs.Faults.{broken?, noArea?}
+use Rattle.jobs.specs.Faults.{breaks?}
 use Rattle.jobs.proofs.Branches.{passed, failed}
 use Rattle.jobs.proofs.RowChecks.{ofVariables, variables-start, variables-end, variable-here, variable-past}
 use borrow.Author.Needs.{needs}
@@ -15,7 +16,7 @@ use Rattle.jobs.proofs.check_variables.Statement.{statement}
 use Rattle.jobs.proofs.check_variables.Tie as tie
 
 abbrev Inv-loop : tie.InvT-loop
-Inv-loop job n i₀ i = (i ≤ n) × (firstOf (broken? noArea? job) (table VariableRange n) ≡ ofVariables job i n)
+Inv-loop job n i₀ i = (i ≤ n) × (firstOf (breaks? (lendingNothing job)) (table VariableRange n) ≡ ofVariables job i n)
 
 abbrev μ-loop : tie.MeasureT-loop
 μ-loop job n i₀ i = n - i

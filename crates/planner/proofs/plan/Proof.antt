@@ -1,13 +1,14 @@
--- `plan` meets its contract: verdict and sheet are those of the definitions, and these keep the three demands.
+-- `plan` meets its contract: verdict and areas are those of the definitions, and these keep the three demands.
 use mathlib.Core.Path.{_≡_, sym, _∙_, ap, subst}
 use mathlib.Core.List.{List}
 use Prim.Native.Nat.{ℕ}
 use borrow.Author.Needs.{needs}
 use Rattle.reasons.specs.Numbers.{numberOf, rowOf}
+use Rattle.jobs.specs.Call.{Areas, Call, areasOf, callOf}
 use Rattle.jobs.specs.Faults.{answerOf}
 use Rattle.jobs.specs.Verdict.{Verdict, verdict}
-use Rattle.jobs.specs.Sheet.{sheet}
-use Rattle.jobs.specs.Demands.{TurnsAway, GivesFits, CannotBeBettered}
+use Rattle.jobs.specs.AreasAfter.{areasAfter}
+use Rattle.jobs.specs.Demands.{TurnsAway, GivesFits, CannotBeBettered, Plans}
 use Rattle.jobs.proofs.Outcomes.{as-checked}
 use Rattle.jobs.proofs.DemandsHold.{turns-away, cannot-be-bettered}
 use Rattle.families.proofs.SheetFamilies.{definitions-give-fits}
@@ -15,13 +16,21 @@ use Rattle.solver.proofs.AcceptedJob.{accepts}
 use Rattle.planner.proofs.plan.Statement.{statement}
 use Rattle.planner.proofs.plan.Tie as tie
 
--- what is promised, where verdict and area are those of the definitions
-module _ (s area : List ℕ) (v : Verdict) (after : List ℕ) (p : v ≡ verdict s area) (q : after ≡ sheet s area) where
-  of : (P : Verdict → List ℕ → Type 0) → P (verdict s area) (sheet s area) → P v after
-  of P h = subst (λ v. P v after) (sym p) (subst (P (verdict s area)) (sym q) h)
+-- what is promised, where verdict and areas are those of the definitions
+promised : (c : Call) {v : Verdict} {x : Areas} → v ≡ verdict c → x ≡ areasAfter c → Plans c v x
+promised c {v} {x} p q = record {
+  outcome = p;
+  areas = q;
+  refusals = of (TurnsAway c) (turns-away c);
+  fits = of (GivesFits c) (definitions-give-fits c);
+  best = of (CannotBeBettered c) (cannot-be-bettered c);
+}
+  where
+    of : (P : Verdict → Areas → Type 0) → P (verdict c) (areasAfter c) → P v x
+    of P h = subst (λ v. P v x) (sym p) (subst (P (verdict c)) (sym q) h)
 
-  promised : (v ≡ verdict s area) × ((after ≡ sheet s area) × (TurnsAway s area v after × (GivesFits s area v after × CannotBeBettered s area v after)))
-  promised = (p, (q, (of (TurnsAway s area) (turns-away s area), (of (GivesFits s area) (definitions-give-fits s area), of (CannotBeBettered s area) (cannot-be-bettered s area)))))
+abbrev call : tie.Start → Call
+call s = callOf (s .args .job .now) (areasOf (s .args .area .now))
 
 fitted-requires : tie.Need-fitted-requires
 fitted-requires c κs =
@@ -35,14 +44,14 @@ returns c =
     let k = c .before .before .before in
     let s = k .before .before .before in
     let r = c .before .checked .given .0 .0 in
-    let (p, q) = as-checked (s .args .job .now) (s .args .area .now) (numberOf r) (rowOf r) (sym (k .check .ensures .0) ∙ ap answerOf (c .before .checked .given .1)) in
-    promised (s .args .job .now) (s .args .area .now) _ _ (sym p) (sym q)
+    let (p, q) = as-checked (call s) (numberOf r) (rowOf r) (sym (k .check .ensures .0) ∙ ap answerOf (c .before .checked .given .1)) in
+    promised (call s) (sym p) (sym q)
 
 returns-2 : tie.Need-returns-2
 returns-2 c =
     let f = c .before .before in
     let s = f .before .before .before .before .before .before .before in
-    promised (s .args .job .now) (s .args .area .now) _ _ (f .fitted .ensures .0) (f .fitted .ensures .1)
+    promised (call s) (f .fitted .ensures .0) (f .fitted .ensures .1)
 
 pub plan-spec : {M : Type 1} → statement M
 plan-spec =

@@ -1,9 +1,10 @@
 -- `buyer::plan_rewritten` keeps the demand: every byte is the planner's.
-use mathlib.Core.Path.{sym, _∙_, subst}
+use mathlib.Core.Path.{_∙_}
 use borrow.Author.Needs.{needs}
+use Rattle.jobs.specs.Call.{areasOf, callOf}
 use Rattle.jobs.specs.Demands.{CannotBeBettered}
 use Rattle.planner.specs.Outcome.{verdictOf}
-use Rattle.demands.proofs.Carried.{again}
+use Rattle.demands.proofs.Carried.{as-it-was, again}
 use Rattle.demands.proofs.buyer.plan_rewritten.Statement.{statement}
 use Rattle.demands.proofs.buyer.plan_rewritten.Tie as tie
 
@@ -17,10 +18,10 @@ returns c =
     let told = get2 .before .before in
     let plan = told .before .before .before in
     let s = plan .before .before .before .before .before .args in
-    subst (CannotBeBettered (s .job .now) (s .area .now) (verdictOf (plan .plan .result)))
-    (sym (again (apart .is-apart .result) (put .put .last .0) (put2 .put2 .last .0) 40 (get3 .get3 .result) (get3 .get3 .ensures) (put2 .put2 .ensures)
-    ∙ again (told .is-planned .result) (plan .plan .last .1 .0) (put .put .last .0) 24 (get2 .get2 .result) (get2 .get2 .ensures) (put .put .ensures)))
-    (plan .plan .ensures .1 .1 .1 .1)
+    as-it-was (CannotBeBettered (callOf (s .job .now) (areasOf (s .area .now))) (verdictOf (plan .plan .result)))
+    (plan .plan .ensures .best)
+    (again (apart .is-apart .result) (put .put .last .0) (put2 .put2 .last .0) 40 (get3 .get3 .result) (get3 .get3 .ensures) (put2 .put2 .ensures)
+    ∙ again (told .is-planned .result) (plan .plan .last .1 .0) (put .put .last .0) 24 (get2 .get2 .result) (get2 .get2 .ensures) (put .put .ensures))
 
 pub plan-rewritten-spec : {M : Type 1} → statement M
 plan-rewritten-spec =

@@ -1,6 +1,7 @@
 -- `installer::plan_early` keeps the demand: so far as it turns away, the definitions do.
 use native.Mathlib.Omega.{arith}
 use borrow.Author.Needs.{needs}
+use Rattle.jobs.specs.Call.{areasOf, callOf}
 use Rattle.jobs.specs.Demands.{GivesFits}
 use Rattle.families.proofs.SheetFamilies.{definitions-give-fits}
 use Rattle.demands.proofs.Carried.{turned-early}
@@ -10,9 +11,8 @@ use Rattle.demands.proofs.installer.plan_early.Tie as tie
 returns : tie.Need-returns
 returns c =
     let a = c .before .before .before .args in
-    let s = a .job .now in
-    let area = a .area .now in
-    turned-early (GivesFits s area) s area (omega (arith, c .if1 .taken)) (definitions-give-fits s area)
+    let call = callOf (a .job .now) (areasOf (a .area .now)) in
+    turned-early (GivesFits call) call (omega (arith, c .if1 .taken)) (definitions-give-fits call)
 
 pub plan-early-spec : {M : Type 1} → statement M
 plan-early-spec = tie.close (tie.spec returns (search needs) (search needs) (λ c. search needs))

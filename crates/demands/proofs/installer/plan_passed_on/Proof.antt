@@ -1,8 +1,9 @@
 -- `installer::plan_passed_on` keeps the demand: the answer is the planner's, and so is the area.
-use mathlib.Core.Path.{refl, sym, _∙_, ap}
+use mathlib.Core.Path.{sym, _∙_, ap}
 use mir.Syntax.{w64}
 use mir.Facts.{toZ-ofZ}
 use borrow.Author.Needs.{needs}
+use Rattle.jobs.specs.Call.{areasOf, callOf}
 use Rattle.jobs.specs.Demands.{GivesFits}
 use Rattle.planner.specs.declared.Outcome.the-variants.{Planned}
 use Rattle.demands.proofs.Carried.{passed-on}
@@ -13,19 +14,19 @@ returns : tie.Need-returns
 returns c =
     let plan = c .before .before .before .before .before in
     let s = plan .before .before .before .before .args in
-    passed-on (GivesFits (s .job .now) (s .area .now)) (plan .plan .ensures .1 .1 .1 .0) (c .before .outcome .given .1 ∙ ap Planned (sym (toZ-ofZ {w = w64} (record { sfits = c .known-told .given .0 .1 })))) refl
+    passed-on (GivesFits (callOf (s .job .now) (areasOf (s .area .now)))) (plan .plan .ensures .fits) (c .before .outcome .given .1 ∙ ap Planned (sym (toZ-ofZ {w = w64} (record { sfits = c .known-told .given .0 .1 }))))
 
 returns-2 : tie.Need-returns-2
 returns-2 c =
     let plan = c .before .before .before .before .before in
     let s = plan .before .before .before .before .args in
-    passed-on (GivesFits (s .job .now) (s .area .now)) (plan .plan .ensures .1 .1 .1 .0) (c .before .outcome2 .given .1) refl
+    passed-on (GivesFits (callOf (s .job .now) (areasOf (s .area .now)))) (plan .plan .ensures .fits) (c .before .outcome2 .given .1)
 
 returns-3 : tie.Need-returns-3
 returns-3 c =
     let plan = c .before .before .before .before .before in
     let s = plan .before .before .before .before .args in
-    passed-on (GivesFits (s .job .now) (s .area .now)) (plan .plan .ensures .1 .1 .1 .0) (c .before .outcome3 .given .1) refl
+    passed-on (GivesFits (callOf (s .job .now) (areasOf (s .area .now)))) (plan .plan .ensures .fits) (c .before .outcome3 .given .1)
 
 pub plan-passed-on-spec : {M : Type 1} → statement M
 plan-passed-on-spec =

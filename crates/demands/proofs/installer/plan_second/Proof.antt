@@ -4,7 +4,7 @@ use Rattle.demands.proofs.installer.plan_second.Statement.{statement}
 use Rattle.demands.proofs.installer.plan_second.Tie as tie
 
 returns : tie.Need-returns
-returns c = c .before .before .plan2 .ensures .1 .1 .1 .0
+returns c = c .before .before .plan2 .ensures .fits
 
 pub plan-second-spec : {M : Type 1} → statement M
 plan-second-spec =

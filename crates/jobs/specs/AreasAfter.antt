@@ -1,0 +1,32 @@
+-- Every area after the call: document 01, "The sheet".
+use mathlib.Core.List.{List, _++_}
+use Prim.Native.Nat.{ℕ}
+use lib.ListN.{length, drop}
+use Rattle.jobs.specs.Call.{Areas, Call, onLent}
+use Rattle.jobs.specs.Job.{jobOf}
+use Rattle.jobs.specs.Solution.{best}
+use Rattle.jobs.specs.Component.{leads, component}
+use Rattle.jobs.specs.Family.{componentJob, chosen, slope, familyRun}
+use Rattle.jobs.specs.Findings.{Findings, findings}
+use Rattle.jobs.specs.Verdict.{Verdict, planned, noFit, refused, verdict}
+use Rattle.jobs.specs.SheetLayout.{laidOut}
+
+-- a report at the front of an area; what lies past it stays
+abbrev pub atFront : List ℕ → List ℕ → List ℕ
+atFront report area = report ++ drop (length report) area
+
+-- the answer area. "Bytes past 24 + 16n + 16g keep their contents." "On no fit and on refusal the whole answer area keeps its
+-- contents."
+unfoldable pub sheetAfter : Findings → Verdict → List ℕ → List ℕ
+unfolding laidOut
+sheetAfter f (planned worth) area = atFront (laidOut f) area
+sheetAfter f (noFit l) area = area
+sheetAfter f (refused reason row) area = area
+
+-- by what is found and the verdict, on the areas as lent
+abbrev pub areasBy : Findings → Verdict → Areas → Areas
+areasBy f v lent = record { sheet = onLent (sheetAfter f v) (lent .sheet) }
+
+unfoldable pub areasAfter : Call → Areas
+unfolding verdict sheetAfter jobOf leads component familyRun best componentJob chosen slope
+areasAfter c = areasBy (findings (jobOf (c .job))) (verdict c) (c .lent)
