@@ -14,7 +14,7 @@ use Rattle.planner.proofs.choose.numbers.Statement.{statement}
 use Rattle.planner.proofs.choose.numbers.Tie as tie
 
 abbrev Inv-loop : tie.InvT-loop
-Inv-loop n labels runs slopes numbers₀ i₀ numbers i = (i ≤ n) × Filled (pos 0) (numberIn labels runs slopes) i numbers
+Inv-loop n labels runs slopes numbers₀ i₀ numbers i = (i ≤ n) × Filled 256 (pos 0) (numberIn labels runs slopes) i numbers
 
 abbrev μ-loop : tie.MeasureT-loop
 μ-loop n labels runs slopes numbers₀ i₀ numbers i = n - i

@@ -8,7 +8,7 @@ use Rattle.solver.proofs.components.apart.Statement.{statement}
 use Rattle.solver.proofs.components.apart.Tie as tie
 
 abbrev Inv-loop : tie.InvT-loop
-Inv-loop labels₀ i₀ labels i = (i ≤ 256) × Filled 0 (λ k. k) i labels
+Inv-loop labels₀ i₀ labels i = (i ≤ 256) × Filled 256 0 (λ k. k) i labels
 
 abbrev μ-loop : tie.MeasureT-loop
 μ-loop labels₀ i₀ labels i = 256 - i

@@ -16,7 +16,7 @@ use Rattle.solver.proofs.components.numbers.Tie as tie
 
 -- at variable i
 module _ (labels : List ℕ) (n i : ℕ) (numbers : List ℕ) (next : ℕ) (small : n ≤ 256) (h : i < n) (w : Lowest labels n)
-    (e : next ≡ length (leadsBy (labelIn labels) i)) (f : Filled 0 (componentBy (labelIn labels) n) i numbers) where
+    (e : next ≡ length (leadsBy (labelIn labels) i)) (f : Filled 256 0 (componentBy (labelIn labels) n) i numbers) where
   abbrev g : ℕ → ℕ
   g = labelIn labels
 
@@ -26,19 +26,19 @@ module _ (labels : List ℕ) (n i : ℕ) (numbers : List ℕ) (next : ℕ) (smal
   lead-next : g i ≡ i → next + 1 ≡ length (leadsBy g (i + 1))
   lead-next q = ap (λ k. k + 1) e ∙ sym (ap length (leads-yes g i q) ∙ length-append (leadsBy g i) (i ∷ []))
 
-  lead-filled : g i ≡ i → Filled 0 (componentBy g n) (i + 1) (set numbers i next)
+  lead-filled : g i ≡ i → Filled 256 0 (componentBy g n) (i + 1) (set numbers i next)
   lead-filled q = filled 0 (componentBy g n) i numbers f next (omega arith) (e ∙ sym (component-lead g n i (omega arith) q))
 
   other-next : g i ≢ i → next ≡ length (leadsBy g (i + 1))
   other-next d = e ∙ sym (ap length (leads-no g i d))
 
-  other-filled : g i ≢ i → Filled 0 (componentBy g n) (i + 1) (set numbers i (getD numbers (g i) 0))
+  other-filled : g i ≢ i → Filled 256 0 (componentBy g n) (i + 1) (set numbers i (getD numbers (g i) 0))
   other-filled d =
       filled 0 (componentBy g n) i numbers f (getD numbers (g i) 0) (omega arith)
       (f .done (g i) (omega (arith, w .low i h, d)) ∙ component-same g n (g i) i (w .self i h))
 
 abbrev Inv-loop : tie.InvT-loop
-Inv-loop n labels numbers₀ next₀ i₀ numbers next i = (i ≤ n) × ((next ≡ length (leadsBy (labelIn labels) i)) × Filled 0 (componentBy (labelIn labels) n) i numbers)
+Inv-loop n labels numbers₀ next₀ i₀ numbers next i = (i ≤ n) × ((next ≡ length (leadsBy (labelIn labels) i)) × Filled 256 0 (componentBy (labelIn labels) n) i numbers)
 
 abbrev μ-loop : tie.MeasureT-loop
 μ-loop n labels numbers₀ next₀ i₀ numbers next i = n - i
@@ -59,7 +59,7 @@ loop-again : tie.Need-loop-again Inv-loop μ-loop
 loop-again c =
     let l = c .before .before .loop in
     let s = c .before .before .before in
-    let F = Filled 0 (componentBy (labelIn (s .args .t1)) (s .args .n)) (l .i + 1) in
+    let F = Filled 256 0 (componentBy (labelIn (s .args .t1)) (s .args .n)) (l .i + 1) in
     ⊎-elim
     (λ w. (
       omega arith,

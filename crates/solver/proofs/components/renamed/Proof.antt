@@ -20,7 +20,7 @@ before-high : (low high n : ℕ) (labels : List ℕ) → low ≤ high → high <
 before-high low high n labels o l f k h = merged-rest low high (getD labels k 0) o (λ e. omega (arith, f .at k (omega arith), e, h))
 
 abbrev Inv-loop : tie.InvT-loop
-Inv-loop high low n labels out₀ first i₀ out i = (i ≤ n) × Passed 0 (after low high labels) labels i out
+Inv-loop high low n labels out₀ first i₀ out i = (i ≤ n) × Passed 256 0 (after low high labels) labels i out
 
 abbrev μ-loop : tie.MeasureT-loop
 μ-loop high low n labels out₀ first i₀ out i = n - i

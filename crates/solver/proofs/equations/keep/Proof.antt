@@ -27,7 +27,7 @@ before-both runs labels l r i n b f low e k h =
     rw (ne-eqb (getD labels k 0) l (λ z. omega (arith, f .at k (omega (arith, e)), z, e, h)), ne-eqb (getD labels k 0) r (λ z. omega (arith, f .at k (omega (arith, e)), z, e, h))) refl
 
 abbrev Inv-loop : tie.InvT-loop
-Inv-loop l r kept n runs labels out₀ i₀ out i = (i ≤ n) × Passed empty (after runs labels l r kept) runs i out
+Inv-loop l r kept n runs labels out₀ i₀ out i = (i ≤ n) × Passed 256 empty (after runs labels l r kept) runs i out
 
 abbrev μ-loop : tie.MeasureT-loop
 μ-loop l r kept n runs labels out₀ i₀ out i = n - i

@@ -25,7 +25,7 @@ made : (b : Bounds) (r x y : Run) → x ≡ full → y ≡ interval (b .low) (b 
 made b r x y p q e = e ∙ rw (p, q) refl
 
 abbrev Inv-loop : tie.InvT-loop
-Inv-loop n bounds runs₀ i₀ runs i = (i ≤ n) × Filled empty (begins bounds) i runs
+Inv-loop n bounds runs₀ i₀ runs i = (i ≤ n) × Filled 256 empty (begins bounds) i runs
 
 abbrev μ-loop : tie.MeasureT-loop
 μ-loop n bounds runs₀ i₀ runs i = n - i

@@ -27,7 +27,7 @@ row : (j : Job) (k : ℕ) (v : Variable) → v ≡ variable j k → SFits w64 (v
 row j k v e f g = rw (toZ-ofZ f, toZ-ofZ g, e) refl
 
 abbrev Inv-loop : tie.InvT-loop
-Inv-loop job n bounds₀ weights₀ i₀ bounds weights i = (i ≤ n) × (Filled noBounds (boundsIn (jobOf job)) i bounds × Filled (pos 0) (weightIn (jobOf job)) i weights)
+Inv-loop job n bounds₀ weights₀ i₀ bounds weights i = (i ≤ n) × (Filled 256 noBounds (boundsIn (jobOf job)) i bounds × Filled 256 (pos 0) (weightIn (jobOf job)) i weights)
 
 abbrev μ-loop : tie.MeasureT-loop
 μ-loop job n bounds₀ weights₀ i₀ bounds weights i = n - i
