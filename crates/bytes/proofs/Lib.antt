@@ -6,3 +6,5 @@ pub mod LittleEndian
 pub mod TwosComplement
 -- bytes written over others: pieces that stand behind each other are one piece (`over-over`, `behind-it`)
 pub mod Over
+-- a header and two lists of rows: how long they are (`length-report`), and where a field is read (`in-header`, `in-first`, `in-second`)
+pub mod Report

@@ -4,7 +4,7 @@ use mathlib.Core.Path.{_≡_, refl, sym, _∙_, ap, ap₂}
 use mathlib.Core.List.{List, _++_, flatMap}
 use Prim.Native.Nat.{ℕ, _+_, _*_, _^_, _≤_, _<_}
 use native.Mathlib.Omega.{arith}
-use lib.ListN.{length, getD, drop, length-append, length-drop}
+use lib.ListN.{length, getD}
 use Rattle.ints.specs.Within.{Within}
 use Rattle.ints.proofs.{ℤ}
 use Rattle.runs.specs.declared.Run.{Run}
@@ -12,16 +12,16 @@ use Rattle.runs.specs.Run.{bound}
 use Rattle.lists.specs.Members.{_∈_}
 use Rattle.lists.specs.Table.{upTo}
 use Rattle.lists.proofs.Maps.{flatMap-same}
-use Rattle.lists.proofs.Places.{length-both, length-flatMap}
+use Rattle.lists.proofs.Places.{length-flatMap}
 use Rattle.lists.proofs.Table.{in-upTo, table-at, length-upTo}
 use Rattle.bytes.specs.LittleEndian.{unsigned, i64, bytesOf, signedBytes}
-use Rattle.jobs.specs.Job.{Job, jobOf}
-use Rattle.jobs.specs.SheetOffsets.{sheetLength}
+use Rattle.jobs.specs.Job.{Job}
 use Rattle.jobs.specs.Component.{componentCount, component}
 use Rattle.jobs.specs.Findings.{Findings, findings}
 use Rattle.jobs.specs.SheetLayout.{sheetHeader, sheetVariable, sheetGroup, sheetVariables, sheetGroups, laidOut}
 use Rattle.jobs.specs.Demands.{worthOn, numberOn, baseOn, stepOn, LaidOut}
-use Rattle.bytes.proofs.LittleEndian.{unsigned-first, unsigned-past, unsigned-part, unsigned-bytesOf}
+use Rattle.bytes.proofs.LittleEndian.{unsigned-bytesOf}
+use Rattle.bytes.proofs.Report.{length-report, in-header as header-in, in-first, in-second}
 use Rattle.bytes.proofs.TwosComplement.{FitsBytes, within-fits, signed-field}
 use Rattle.jobs.proofs.Components.{length-leads, component-below}
 use Rattle.jobs.proofs.Numbering.{numbered-by}
@@ -67,48 +67,42 @@ module _ (f : Findings) where
   unfolding laidOut
   laidOut-is = refl
 
-  length-variableRows : length variableRows ≡ 16 * f .n
-  length-variableRows = length-variables (f .assigned) (f .run) (f .component) (f .n)
+  wide-header : length header ≡ 24
+  wide-header = length-header (f .n) (length (f .leads)) (f .objective)
 
-  length-groupRows : length groupRows ≡ 16 * length (f .leads)
-  length-groupRows = length-groups (f .run) (f .chosen) (f .slope) (f .leads)
+  wide-variable : (i : ℕ) → length (variableRow i) ≡ 16
+  wide-variable i = length-variable (f .assigned i) (f .run i) (f .component i)
 
-  length-front : length (header ++ variableRows) ≡ 24 + 16 * f .n
-  length-front = length-both header variableRows (length-header (f .n) (length (f .leads)) (f .objective)) length-variableRows
+  wide-group : (l : ℕ) → length (groupRow l) ≡ 16
+  wide-group l = length-group (f .run l .many) (f .chosen l) (f .slope l)
 
   pub length-laidOut : length (laidOut f) ≡ 24 + 16 * f .n + 16 * length (f .leads)
-  length-laidOut = ap length laidOut-is ∙ length-both (header ++ variableRows) groupRows length-front length-groupRows
+  unfolding sheetVariables sheetGroups
+  length-laidOut =
+      ap length laidOut-is
+      ∙ length-report header variableRow (upTo (f .n)) groupRow (f .leads) 16 wide-header wide-variable wide-group
+      ∙ ap (λ n. 24 + 16 * n + 16 * length (f .leads)) (length-upTo (f .n))
 
   -- ---- where each part is read, on a sheet with anything behind it
   module _ (rest : List ℕ) (k : ℕ) where
-    -- up to the end, and up to the group rows
-    in-sheet : (at : ℕ) → at + k ≤ 24 + 16 * f .n + 16 * length (f .leads) → unsigned k (laidOut f ++ rest) at ≡ unsigned k (header ++ variableRows ++ groupRows) at
-    in-sheet at h = unsigned-first k (laidOut f) rest at (omega (arith, length-laidOut)) ∙ ap (λ s. unsigned k s at) laidOut-is
-
-    in-front : (at : ℕ) → at + k ≤ 24 + 16 * f .n → unsigned k (laidOut f ++ rest) at ≡ unsigned k (header ++ variableRows) at
-    in-front at h = in-sheet at (omega arith) ∙ unsigned-first k (header ++ variableRows) groupRows at (omega (arith, length-front))
-
     in-header : (at : ℕ) → at + k ≤ 24 → unsigned k (laidOut f ++ rest) at ≡ unsigned k header at
-    in-header at h = in-front at (omega arith) ∙ unsigned-first k header variableRows at (omega (arith, length-header (f .n) (length (f .leads)) (f .objective)))
+    unfolding sheetVariables sheetGroups
+    in-header at h =
+        ap (λ s. unsigned k (s ++ rest) at) laidOut-is
+        ∙ header-in header variableRow (upTo (f .n)) groupRow (f .leads) 16 wide-header wide-variable wide-group rest k at h
 
     in-variable : (i at : ℕ) → i < f .n → at + k ≤ 16 → unsigned k (laidOut f ++ rest) (24 + 16 * i + at) ≡ unsigned k (variableRow i) at
-    unfolding sheetVariables
+    unfolding sheetVariables sheetGroups
     in-variable i at h l =
-        let e : 24 + 16 * i + at ≡ 24 + (16 * i + at) = omega arith in
-        in-front (24 + 16 * i + at) (omega arith)
-        ∙ ap (unsigned k (header ++ variableRows)) e
-        ∙ unsigned-past k header variableRows (16 * i + at) (length-header (f .n) (length (f .leads)) (f .objective))
-        ∙ unsigned-part variableRow 16 (λ i. length-variable (f .assigned i) (f .run i) (f .component i)) (upTo (f .n)) 0 k i at (omega (arith, length-upTo (f .n))) l
+        ap (λ s. unsigned k (s ++ rest) (24 + 16 * i + at)) laidOut-is
+        ∙ in-first header variableRow (upTo (f .n)) groupRow (f .leads) 16 wide-header wide-variable wide-group rest k i at 0 (omega (arith, h, length-upTo (f .n))) l
         ∙ ap (λ i. unsigned k (variableRow i) at) (table-at (λ i. i) (f .n) i 0 h)
 
     in-group : (g at : ℕ) → g < length (f .leads) → at + k ≤ 16 → unsigned k (laidOut f ++ rest) (24 + 16 * f .n + 16 * g + at) ≡ unsigned k (groupRow (getD (f .leads) g 0)) at
-    unfolding sheetGroups
+    unfolding sheetVariables sheetGroups
     in-group g at h l =
-        let e : 24 + 16 * f .n + 16 * g + at ≡ 24 + 16 * f .n + (16 * g + at) = omega arith in
-        in-sheet (24 + 16 * f .n + 16 * g + at) (omega arith)
-        ∙ ap (unsigned k (header ++ variableRows ++ groupRows)) e
-        ∙ unsigned-past k (header ++ variableRows) groupRows (16 * g + at) length-front
-        ∙ unsigned-part groupRow 16 (λ l. length-group (f .run l .many) (f .chosen l) (f .slope l)) (f .leads) 0 k g at h l
+        ap₂ (λ s n. unsigned k (s ++ rest) (24 + 16 * n + 16 * g + at)) laidOut-is (sym (length-upTo (f .n)))
+        ∙ in-second header variableRow (upTo (f .n)) groupRow (f .leads) 16 wide-header wide-variable wide-group rest k g at 0 h l
 
   -- ---- what reads back
   worth-field : unsigned 8 header 16 ≡ unsigned 8 (signedBytes 8 (f .objective)) 0
