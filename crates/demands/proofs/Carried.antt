@@ -1,6 +1,7 @@
 -- A demand is carried over from the planner's verdict and areas to those of a variant that changes neither.
 use mathlib.Core.Path.{_≡_, sym, _∙_, ap, subst}
 use mathlib.Core.Bool.{Bool, true, false, cond, _&&_}
+use mathlib.Core.Option.{Option}
 use mathlib.Core.List.{List}
 use Prim.Native.Nat.{ℕ, _<_}
 use lib.ListN.{length, getD, set}
@@ -20,9 +21,9 @@ turned-early P c h p = let (v, a) = no-header c h in subst (λ v. P v (c .lent))
 pub passed-on : (P : Verdict → Areas → Type 0) {r t : Outcome} {x : Areas} → P (verdictOf r) x → r ≡ t → P (verdictOf t) x
 passed-on P {r} {t} {x} p e = subst (λ t. P (verdictOf t) x) e p
 
--- an area that is as it was
-pub as-it-was : (P : Areas → Type 0) {after later : List ℕ} → P (areasOf after) → later ≡ after → P (areasOf later)
-as-it-was P p e = subst (λ area. P (areasOf area)) (sym e) p
+-- an answer area that is as it was
+pub as-it-was : (P : Areas → Type 0) {map : Option (List ℕ)} {after later : List ℕ} → P (areasOf after map) → later ≡ after → P (areasOf later map)
+as-it-was P {map} p e = subst (λ area. P (areasOf area map)) (sym e) p
 
 -- a test of a byte of the sheet, where there is one
 pub by-byte : {p : Bool} (test : ℕ → Bool) (x y : ℕ) → p ≡ true → x ≡ y → test x ≡ p && test y

@@ -10,5 +10,7 @@ pub mod service_port;
 pub mod installer;
 // no other fit-out of the job is worth more, or as much and comes earlier
 pub mod buyer;
+// a map area that is lent shows how the job hangs together
+pub mod bench;
 // bytes of a sheet, for the variants
 mod rewrite;

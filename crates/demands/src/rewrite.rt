@@ -1,4 +1,4 @@
-//! Bytes of a sheet, for the variants of the planner.
+//! Bytes of a sheet or a map, for the variants of the planner.
 
 ghost use mathlib.Core.Path.{_≡_};
 ghost use mathlib.Core.Bool.{cond};
@@ -32,6 +32,15 @@ pub(crate) fn is_planned(outcome: Outcome) -> bool
     match outcome {
         Outcome::Planned(_) => true,
         Outcome::NoFit(_) => false,
+        Outcome::Refused(_) => false,
+    }
+}
+
+// Is there no fit?
+pub(crate) fn is_unfit(outcome: Outcome) -> bool {
+    match outcome {
+        Outcome::Planned(_) => false,
+        Outcome::NoFit(_) => true,
         Outcome::Refused(_) => false,
     }
 }

@@ -31,7 +31,8 @@ use Rattle.jobs.specs.Faults.{firstBroken}
 use Rattle.jobs.specs.Verdict.{Verdict, planned, noFit, refused, firstWithout, outcome, verdict}
 use Rattle.jobs.specs.Findings.{findings}
 use Rattle.jobs.specs.SheetLayout.{laidOut}
-use Rattle.jobs.specs.AreasAfter.{atFront, sheetAfter, areasBy, areasAfter}
+use Rattle.jobs.specs.Structure.{structure}
+use Rattle.jobs.specs.AreasAfter.{atFront, sheetAfter, mapAfter, areasBy, areasAfter}
 use Rattle.jobs.proofs.FirstOf.{first-same}
 use Rattle.jobs.specs.Lawful.{LawfulJob}
 use Rattle.jobs.proofs.Components.{in-leads, lead-in}
@@ -164,7 +165,7 @@ module _ (c : Call) where
 
   pub areas-by : modelAreas c ≡ areasAfter c
   unfolding modelAreas sheetAfter
-  areas-by = ap (λ v. areasBy (modelFindings j) v (c .lent)) verdict-by ∙ go (verdict c) refl ∙ sym (by c refl)
+  areas-by = ap (λ v. areasBy (modelFindings j) (structure j) v (c .lent)) verdict-by ∙ go (verdict c) refl ∙ sym (by c refl)
     where
       laid : (w : ℤ) → verdict c ≡ planned w → laidOut (modelFindings j) ≡ laidOut (findings j)
       laid w e =
@@ -172,7 +173,7 @@ module _ (c : Call) where
           let f = lawful-of c o in
           same-layout (findings-by j f (labelAt (stateAfterAll j)) (runAt (stateAfterAll j)) (exact j f) _ (λ i h. refl) (h .0))
 
-      go : (v : Verdict) → verdict c ≡ v → areasBy (modelFindings j) v (c .lent) ≡ areasBy (findings j) v (c .lent)
-      go (planned w) e = ap (λ t. record { sheet = onLent (atFront t) (c .lent .sheet) }) (laid w e)
+      go : (v : Verdict) → verdict c ≡ v → areasBy (modelFindings j) (structure j) v (c .lent) ≡ areasBy (findings j) (structure j) v (c .lent)
+      go (planned w) e = ap (λ t. record { sheet = onLent (atFront t) (c .lent .sheet); map = onLent (mapAfter (structure j) (planned w)) (c .lent .map) }) (laid w e)
       go (noFit l) e = refl
       go (refused reason row) e = refl

@@ -14,11 +14,12 @@ use Rattle.runs.specs.declared.Run.{Run}
 use Rattle.jobs.specs.Decide.{equal?, firstOf}
 use Rattle.jobs.specs.Call.{Areas, Call}
 use Rattle.jobs.specs.Job.{Job, jobOf, variable}
-use Rattle.jobs.specs.Component.{leads}
+use Rattle.jobs.specs.Component.{leads, component}
 use Rattle.jobs.specs.Findings.{Findings}
 use Rattle.jobs.specs.Faults.{firstBroken}
 use Rattle.jobs.specs.Verdict.{Verdict, outcome}
-use Rattle.jobs.specs.AreasAfter.{sheetAfter, areasBy}
+use Rattle.jobs.specs.Structure.{degreeBy, kind, structure}
+use Rattle.jobs.specs.AreasAfter.{sheetAfter, mapAfter, areasBy}
 use Rattle.families.specs.Family.{choice}
 use Rattle.families.specs.Model.{labelAt, runAt, stateAfterAll}
 
@@ -75,11 +76,11 @@ modelFindings j = let t = stateAfterAll j in findingsBy (length (j .variables)) 
 abbrev pub modelEmpty : Job → Option ℕ
 modelEmpty j = let t = stateAfterAll j in emptyBy (length (j .variables)) (labelAt t) (runAt t)
 
--- of all that a call is given
+-- of all that a call is given. How the job hangs together is the definitions' own: they compute it without a search.
 unfoldable pub verdictBy : Call → Verdict
 unfolding firstBroken jobOf leads stateAfterAll emptyBy objectiveBy
 verdictBy c = let j = jobOf (c .job) in outcome (firstBroken c) (modelEmpty j) (modelFindings j .objective)
 
 unfoldable pub modelAreas : Call → Areas
-unfolding jobOf stateAfterAll verdictBy sheetAfter leadsBy componentBy slopeBy chosenBy numberBy objectiveBy
-modelAreas c = areasBy (modelFindings (jobOf (c .job))) (verdictBy c) (c .lent)
+unfolding jobOf stateAfterAll verdictBy sheetAfter mapAfter leadsBy componentBy slopeBy chosenBy numberBy objectiveBy leads component degreeBy kind
+modelAreas c = let j = jobOf (c .job) in areasBy (modelFindings j) (structure j) (verdictBy c) (c .lent)

@@ -23,8 +23,9 @@ use Rattle.jobs.specs.Component.{leads, componentCount}
 use Rattle.jobs.specs.Faults.{Answer, accepted, checked}
 use Rattle.jobs.specs.Verdict.{Verdict, planned, noFit, refused}
 use Rattle.jobs.specs.Demands.{baseOn, stepOn, groupOn, fitsOn}
-use Rattle.jobs.specs.JobBytes.{plus, minus, header, count, equationBytes}
+use Rattle.jobs.specs.JobBytes.{plus, minus, header, count, equationBytes, mapHead, pair}
 use Rattle.jobs.specs.Vectors.{Vector, emptySheet, falling, fallingSheet, ring, ringSheet, twice, twiceSheet, uneven, noMultiple, fitted, vectors}
+use Rattle.jobs.specs.MapVectors.{mapM, emptyMap, tiedMap, ringMap}
 use Rattle.families.specs.Family.{choice}
 use Rattle.families.specs.Model.{State, labelAt, runAt, interval, through, candidate, cycle, Indices, commonNumbers, directed, kept, stateAfterAll}
 
@@ -33,8 +34,8 @@ run first step many = record { first = first; step = step; many = many }
 
 -- ---- document 01's jobs marked *
 -- the bytes of a job, and what is expected: of each count the lowest count of its group; how many groups there are; of each
--- count its base, its step and its group's fits; how many bytes a sheet takes, 24 + 16n + 16g; the verdict; and all the bytes
--- that are written, none where there is no fit
+-- count its base, its step and its group's fits; how many bytes a sheet takes, 24 + 16n + 16g; the verdict; all the bytes of the
+-- sheet that are written, none where there is no fit; and those of the map, which is written there too
 pub record Worked : Type 0 where
   pub job : List ℕ
   pub labels : List ℕ
@@ -43,6 +44,7 @@ pub record Worked : Type 0 where
   pub room : ℕ
   pub verdict : Verdict
   pub sheet : List ℕ
+  pub map : List ℕ
 
 abbrev jobM : List ℕ
 jobM =
@@ -89,8 +91,8 @@ widestSheet =
 
 -- ---- the table
 -- what is expected of two counts in one group, and where they have no fit
-abbrev tied : List ℕ → Run → Run → Verdict → List ℕ → Worked
-tied job run0 run1 verdict sheet = record {
+abbrev tied : List ℕ → Run → Run → Verdict → List ℕ → List ℕ → Worked
+tied job run0 run1 verdict sheet shown = record {
   job = job;
   labels = 0 ∷ 0 ∷ [];
   g = 1;
@@ -98,10 +100,11 @@ tied job run0 run1 verdict sheet = record {
   room = 72;
   verdict = verdict;
   sheet = sheet;
+  map = shown;
 }
 
-abbrev without : List ℕ → Worked
-without job = tied job empty empty (noFit 0) []
+abbrev without : List ℕ → List ℕ → Worked
+without job shown = tied job empty empty (noFit 0) [] shown
 
 abbrev pub markedJobs : List Worked
 markedJobs =
@@ -114,21 +117,22 @@ markedJobs =
       room = 120;
       verdict = planned (pos 314);
       sheet = sheetM;
+      map = mapM;
     } ∷
     -- no counts
-    record { job = header 0 0 24 24; labels = []; g = 0; runs = []; room = 24; verdict = planned (pos 0); sheet = emptySheet } ∷
+    record { job = header 0 0 24 24; labels = []; g = 0; runs = []; room = 24; verdict = planned (pos 0); sheet = emptySheet; map = emptyMap } ∷
     -- 2·c0 + 4·c1 = 7
-    without uneven ∷
+    without uneven tiedMap ∷
     -- 3·c0 − 5·c1 = 0: of 1..4 none is a multiple of 5
-    without noMultiple ∷
+    without noMultiple tiedMap ∷
     -- c0 + c1 = 5 and c0 − c1 = c, a ring: its single candidate is 3½ and 1½ for c = 2, and 3 and 2 for c = 1
-    without (ring 2) ∷
-    tied (ring 1) (run (pos 3) (pos 0) 1) (run (pos 2) (pos 0) 1) (planned (pos 0)) ringSheet ∷
+    without (ring 2) ringMap ∷
+    tied (ring 1) (run (pos 3) (pos 0) 1) (run (pos 2) (pos 0) 1) (planned (pos 0)) ringSheet ringMap ∷
     -- c0 − c1 = 0 and c0 − c1 = c, a ring that is redundant for c = 0, and leaves none for c = 1
-    tied (twice 0) (run (pos 0) (pos 1) 4) (run (pos 0) (pos 1) 4) (planned (pos 0)) twiceSheet ∷
-    without (twice 1) ∷
+    tied (twice 0) (run (pos 0) (pos 1) 4) (run (pos 0) (pos 1) 4) (planned (pos 0)) twiceSheet ringMap ∷
+    without (twice 1) ringMap ∷
     -- c0 + 2·c1 = 0
-    tied falling (run (negℤ (pos 4)) (pos 2) 5) (run (pos 2) (negℤ (pos 1)) 5) (planned (pos 2)) fallingSheet ∷
+    tied falling (run (negℤ (pos 4)) (pos 2) 5) (run (pos 2) (negℤ (pos 1)) 5) (planned (pos 2)) fallingSheet tiedMap ∷
     -- the full range
     record {
       job = widest;
@@ -138,6 +142,7 @@ markedJobs =
       room = 56;
       verdict = planned (pos 1000000000000000);
       sheet = widestSheet;
+      map = mapHead 1 0 28 1 ++ pair 0 0;
     } ∷ []
 
 -- the lowest variable of each group

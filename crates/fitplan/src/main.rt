@@ -1,16 +1,28 @@
-//! The print program: reads a job from standard input, plans it, and prints the sheet or why there is none.
+//! The print program: reads a job from standard input, plans it, and prints the sheet or why there is none; with an argument, whatever it
+//! is, the map behind it.
+
+use planner::Lent;
 
 // the job, from standard input
 mod input;
 // a line of output
 mod line;
-// what is printed
+// what is printed of a plan
 mod report;
+// what is printed of a map
+mod map;
 
 fn main() {
     let mut job: input::Buffer = [0; 23577];
     let mut area: report::Area = [0; 8216];
+    let mut shown: map::Area = [0; 5144];
+    let told = 1 < os::arg_count();
     let length = input::read(&mut job);
-    let outcome = planner::plan(&job[..length], &mut area);
+    let outcome = planner::plan(&job[..length], &mut area, &mut shown, Lent { map: told });
     report::show(outcome, &area);
+    if told {
+        if map::is_written(outcome) {
+            map::show(&shown);
+        }
+    }
 }

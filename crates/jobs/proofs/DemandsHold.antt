@@ -1,5 +1,5 @@
--- What the definitions `verdict` and `areasAfter` keep of the demands: the first and the third, and of the second all but the
--- families of a planned sheet, `FamiliesOn`.
+-- What the definitions `verdict` and `areasAfter` keep of the demands: all of them, but of the second not the families of a planned
+-- sheet, `FamiliesOn`.
 use mathlib.Core.Path.{_≡_, refl, sym, _∙_, ap, ap₂, subst}
 use mathlib.Core.Logic.{_↔_, _⊎_, inl, inr, ⊎-elim}
 use mathlib.Core.Option.{Option, none, some}
@@ -7,7 +7,7 @@ use mathlib.Core.List.{List, [], _++_}
 use Prim.Native.Nat.{ℕ, _+_, _*_, _≤_, _<_}
 use lib.ListN.{length, drop}
 use Rattle.reasons.specs.declared.Reason.{Reason}
-use Rattle.reasons.specs.declared.Reason.the-variants.{ShortArea}
+use Rattle.reasons.specs.declared.Reason.the-variants.{ShortArea, ShortMap}
 use Rattle.reasons.specs.Numbers.{numberOf, rowOf}
 use Rattle.ints.specs.Within.{Within}
 use Rattle.ints.proofs.{ℤ, pos, _*ℤ_, _∷_, arith, lin, _&_, facts, within-mul}
@@ -28,13 +28,16 @@ use Rattle.jobs.specs.Lawful.{LawfulJob}
 use Rattle.jobs.specs.Faults.{firstBroken}
 use Rattle.jobs.specs.Verdict.{Verdict, planned, noFit, refused, firstWithout, outcome, verdict}
 use Rattle.jobs.specs.SheetLayout.{laidOut}
+use Rattle.jobs.specs.Structure.{structure}
+use Rattle.jobs.specs.MapLayout.{mapOf}
 use Rattle.jobs.specs.AreasAfter.{atFront, areasAfter}
-use Rattle.jobs.specs.Demands.{IfLent, KeptFrom, worthOn, numberOn, numbersOn, TurnsAway, NoneFits, BestOn, CannotBeBettered, FamiliesOn, NotTurnedAway, FitsOn, GivesFits}
+use Rattle.jobs.specs.Demands.{IfLent, KeptFrom, worthOn, numberOn, numbersOn, TurnsAway, NoneFits, BestOn, CannotBeBettered, FamiliesOn, NotTurnedAway, FitsOn, GivesFits, MapOn, ShowsMap}
 use Rattle.jobs.proofs.Faults.{found-iff, sound-iff}
 use Rattle.jobs.proofs.Lawful.{lawful-named, lawful}
 use Rattle.bytes.proofs.TwosComplement.{within-fits}
 use Rattle.jobs.proofs.SheetFields.{number-back, worth-back, laidOut-back}
-use Rattle.jobs.proofs.AreasAfter.{if-lent, if-planned, if-noFit, if-refused, past-sheet}
+use Rattle.jobs.proofs.MapFields.{map-on}
+use Rattle.jobs.proofs.AreasAfter.{if-lent, not-refused, no-refusal, Mapped, if-planned, if-noFit, if-mapped, if-refused, past-sheet, past-map}
 use Rattle.jobs.proofs.Solutions.{best-is}
 use Rattle.jobs.proofs.Components.{in-leads}
 use Rattle.jobs.proofs.Numbering.{lead-iff, groups-are}
@@ -134,10 +137,19 @@ module _ (c : Call) where
     exactly = λ p q. (λ e. found-iff c p q .1 (refused-when p q e), λ h. from p q (found-iff c p q .0 h));
     untouched = λ p q e. if-refused c e;
     past-sheet = λ g group f. subst (λ g. KeptFrom (groupRowsAt job + 16 * g) (c .lent .sheet) (areasAfter c .sheet)) (sym (groups-are job g group f)) (past-sheet c long);
+    past-map = past-map c (λ m. sound-iff c .0 (unbroken m) ShortMap);
   }
     where
       from : (p q : ℕ) → (r : Reason) × ((firstBroken c ≡ some r) × ((numberOf r ≡ p) × (rowOf r ≡ q))) → verdict c ≡ refused p q
       from p q (r, h) = verdict-is ∙ ap (λ o. outcome o (firstWithout job) (objective job (best job))) (h .0) ∙ ap₂ refused (h .1 .0) (h .1 .1)
+
+      -- where the verdict is no refusal no rule is broken
+      unbroken : Mapped (verdict c) → firstBroken c ≡ none
+      unbroken m = go (firstBroken c) refl
+        where
+          go : (o : Option Reason) → firstBroken c ≡ o → o ≡ none
+          go none e = refl
+          go (some r) e = absurd (m (numberOf r) (rowOf r) (from (numberOf r) (rowOf r) (r, (e, (refl, refl)))))
 
       long : (w : ℤ) → verdict c ≡ planned w → ¬ Shorter (c .lent .sheet) (sheetLength job)
       long w e = sound-iff c .0 (planned-when w e .0) ShortArea
@@ -163,6 +175,16 @@ module _ (c : Call) where
             worth = sym z ∙ ap (objective job) (sym numbers);
             shown = objective-back job f full rest ∙ z;
           }
+
+  -- ---- the demand of the repair bench
+  pub shows-map : ShowsMap c (verdict c) (areasAfter c)
+  shows-map = record {
+    fit = λ w e. shown e (λ p q. not-refused) (planned-when w e .0);
+    no-fit = λ l e. shown e (λ p q. no-refusal) (noFit-when l e .0);
+  }
+    where
+      shown : {v : Verdict} → verdict c ≡ v → Mapped v → firstBroken c ≡ none → IfLent (areasAfter c .map) (MapOn job)
+      shown e m o = subst (λ o. IfLent o (MapOn job)) (sym (if-mapped c e m)) (if-lent (MapOn job) (atFront (mapOf (structure job))) (λ area. map-on job (lawful-of o) (drop (length (mapOf (structure job))) area)) (c .lent .map))
 
   -- ---- of the second: "no fit" only when there is none
   pub no-fit-only : (l : ℕ) → verdict c ≡ noFit l → NoneFits (jobOf (c .job)) l × (areasAfter c .sheet ≡ c .lent .sheet)

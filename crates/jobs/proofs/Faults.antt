@@ -6,7 +6,7 @@ use mathlib.Core.List.{List, [], _++_, flatMap}
 use Prim.Native.Nat.{ℕ, _<_}
 use native.Mathlib.Omega.{arith}
 use Rattle.reasons.specs.declared.Reason.{Reason}
-use Rattle.reasons.specs.declared.Reason.the-variants.{ShortJob, WrongMark, TooMany, WrongHeader, VariableRange, EquationVariables, EquationRange, ShortArea, WrongArgument}
+use Rattle.reasons.specs.declared.Reason.the-variants.{ShortJob, WrongMark, TooMany, WrongHeader, VariableRange, EquationVariables, EquationRange, ShortArea, WrongArgument, ShortMap}
 use Rattle.reasons.specs.Numbers.{numberOf, rowOf}
 use Rattle.lists.specs.Members.{_∈_, here, there}
 use Rattle.lists.specs.Table.{table, upTo}
@@ -58,6 +58,7 @@ module _ (c : Call) where
   among (EquationRange k) b = in-checks (inl (in-row k (b .0) (search (here, there, refl))))
   among ShortArea b = in-checks (inr (search (here, there, refl)))
   among WrongArgument b = absurd b
+  among ShortMap b = in-checks (inr (search (here, there, refl)))
 
   -- ---- the theorem
   pub reported-iff : (r : Reason) → (firstBroken c ≡ some r) ↔ IsFirst (componentCount (jobOf (c .job))) c r
@@ -86,7 +87,7 @@ module _ (c : Call) where
 
 -- ---- no area is too short that is not lent
 pub not-lent : (s : List ℕ) → firstOf (breaks? (lendingNothing s)) areaChecks ≡ none
-not-lent s = let d = breaks? (lendingNothing s) in first-later d ShortArea [] (λ h. h) ∙ first-none d
+not-lent s = let d = breaks? (lendingNothing s) in first-later d ShortArea _ (λ h. h) ∙ first-later d ShortMap [] (λ h. h) ∙ first-none d
 
 same : {P : Type 0} → P ↔ P
 same = (λ h. h, λ h. h)
@@ -131,10 +132,15 @@ module _ (c : Call) where
     area-fault = first-past (breaks? c) (jobChecks c) areaChecks (sym job-fault ∙ e)
 
     pub fault-short : Broken (componentCount (jobOf (c .job))) c ShortArea → firstBroken c ≡ some ShortArea
-    fault-short h = area-fault ∙ first-here (breaks? c) ShortArea [] h
+    fault-short h = area-fault ∙ first-here (breaks? c) ShortArea _ h
 
-    pub fault-none : ¬ Broken (componentCount (jobOf (c .job))) c ShortArea → firstBroken c ≡ none
-    fault-none n = area-fault ∙ first-later (breaks? c) ShortArea [] n ∙ first-none (breaks? c)
+    -- the answer area is long enough
+    module _ (n : ¬ Broken (componentCount (jobOf (c .job))) c ShortArea) where
+      pub fault-map : Broken (componentCount (jobOf (c .job))) c ShortMap → firstBroken c ≡ some ShortMap
+      fault-map h = area-fault ∙ first-later (breaks? c) ShortArea _ n ∙ first-here (breaks? c) ShortMap [] h
+
+      pub fault-none : ¬ Broken (componentCount (jobOf (c .job))) c ShortMap → firstBroken c ≡ none
+      fault-none k = area-fault ∙ first-later (breaks? c) ShortArea _ n ∙ first-later (breaks? c) ShortMap [] k ∙ first-none (breaks? c)
 
 module _ (s : List ℕ) where
   abbrev none-lent : Call

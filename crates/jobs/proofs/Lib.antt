@@ -15,6 +15,8 @@ pub mod Components
 -- components by document 01's sentence, and by the functions that compute: `lead-iff`, `component-numbers`; there is one number
 -- of them and one numbering (`groups-are`, `group-is`)
 pub mod Numbering
+-- an equation's kind is 1 exactly when it joins (`kind-joins`); how often a variable is named, equation by equation
+pub mod Structure
 -- a reason is reported exactly when its rule is broken and none before it (`reported-iff`), a job accepted exactly when no rule is
 -- (`sound-iff`)
 pub mod Faults
@@ -38,11 +40,14 @@ pub mod AnyTieBreak
 -- where the fields of a sheet stand, and that they read back (`laidOut-back`); findings that agree are laid out alike
 -- (`same-layout`)
 pub mod SheetFields
--- every area after a call, case by case: `if-planned`, `if-refused`, `past-sheet`
+-- where the fields of a map stand, and that they show how the job hangs together (`map-on`); structures that agree are laid out alike
+-- (`same-map`)
+pub mod MapFields
+-- every area after a call, case by case: `if-planned`, `if-refused`, `past-sheet`, `past-map`
 pub mod AreasAfter
--- the definitions keep the demands (`turns-away`, `cannot-be-bettered`; of the second all but the families, `gives-fits`)
+-- the definitions keep the demands (`turns-away`, `cannot-be-bettered`, `shows-map`; of the second all but the families, `gives-fits`)
 pub mod DemandsHold
--- verdict and areas, case by case, from what the job check answers: `as-checked`, `too-short`, `as-fitting`
+-- verdict and areas, case by case, from what the job check answers: `as-checked`, `too-short`, `map-too-short`, `as-fitting`
 pub mod Outcomes
 -- of a list longer than any lawful job the first part is answered as the whole: `longer-same`
 pub mod LongInput

@@ -10,15 +10,25 @@ use Rattle.jobs.specs.Call.{Call, lendingNothing}
 use Rattle.jobs.specs.Job.{Job, jobOf}
 use Rattle.jobs.specs.Solution.{objective, best}
 use Rattle.jobs.specs.Findings.{findings}
+use Rattle.jobs.specs.Structure.{structure}
 use Rattle.jobs.specs.SheetOffsets.{sheetLength}
+use Rattle.jobs.specs.MapOffsets.{mapLength}
 use Rattle.jobs.specs.ReasonTable.{Shorter, rowChecks, areaChecks, checks}
 use Rattle.jobs.specs.Faults.{breaks?, firstBroken, accepted, refused as turned, answered, checked}
 use Rattle.jobs.specs.Verdict.{refused, firstWithout, outcome, fitting, verdict}
 use Rattle.jobs.specs.AreasAfter.{areasBy, areasAfter}
 use Rattle.jobs.proofs.FirstOf.{first-here}
-use Rattle.jobs.proofs.Faults.{fault-checked, fault-short, fault-none, accepted-none, refused-some}
-use Rattle.jobs.proofs.AreasAfter.{if-refused, by}
+use Rattle.jobs.proofs.Faults.{fault-checked, fault-short, fault-map, fault-none, accepted-none, refused-some}
+use Rattle.jobs.proofs.AreasAfter.{not-refused, no-refusal, Mapped, if-refused, by}
 use Rattle.jobs.proofs.DemandsHold.{verdict-is}
+
+-- a job that is not turned away has a verdict for which the map is written
+pub fitting-mapped : (j : Job) → Mapped (fitting j)
+fitting-mapped j = go (firstWithout j)
+  where
+    go : (o : Option ℕ) → Mapped (outcome none o (objective j (best j)))
+    go none p q = not-refused
+    go (some l) p q = no-refusal
 
 module _ (c : Call) where
   abbrev j : Job
@@ -44,6 +54,12 @@ module _ (c : Call) where
     pub too-short : Shorter (c .lent .sheet) (sheetLength (jobOf (c .job))) → (verdict c ≡ refused 8 0) × (areasAfter c ≡ c .lent)
     too-short h = let v : verdict c ≡ refused 8 0 = by-fault (fault-short c (accepted-none (c .job) ok) h) in (v, if-refused c v)
 
-    -- no area is too short
-    pub as-fitting : ¬ Shorter (c .lent .sheet) (sheetLength (jobOf (c .job))) → (verdict c ≡ fitting (jobOf (c .job))) × (areasAfter c ≡ areasBy (findings (jobOf (c .job))) (fitting (jobOf (c .job))) (c .lent))
-    as-fitting n = let v : verdict c ≡ fitting j = by-fault (fault-none c (accepted-none (c .job) ok) n) in (v, by c v)
+    module _ (n : ¬ Shorter (c .lent .sheet) (sheetLength (jobOf (c .job)))) where
+      -- that is long enough, and the map area too short
+      pub map-too-short : Shorter (c .lent .map) (mapLength (jobOf (c .job))) → (verdict c ≡ refused 10 0) × (areasAfter c ≡ c .lent)
+      map-too-short h = let v : verdict c ≡ refused 10 0 = by-fault (fault-map c (accepted-none (c .job) ok) n h) in (v, if-refused c v)
+
+      -- no area is too short
+      pub as-fitting : ¬ Shorter (c .lent .map) (mapLength (jobOf (c .job))) →
+          (verdict c ≡ fitting (jobOf (c .job))) × (areasAfter c ≡ areasBy (findings (jobOf (c .job))) (structure (jobOf (c .job))) (fitting (jobOf (c .job))) (c .lent))
+      as-fitting k = let v : verdict c ≡ fitting j = by-fault (fault-none c (accepted-none (c .job) ok) n k) in (v, by c v)

@@ -1,4 +1,4 @@
--- Every area after the call: document 01, "The sheet".
+-- Every area after the call: document 01, "The sheet", and document 02, #101.
 use mathlib.Core.List.{List, _++_}
 use Prim.Native.Nat.{ℕ}
 use lib.ListN.{length, drop}
@@ -10,6 +10,8 @@ use Rattle.jobs.specs.Family.{componentJob, chosen, slope, familyRun}
 use Rattle.jobs.specs.Findings.{Findings, findings}
 use Rattle.jobs.specs.Verdict.{Verdict, planned, noFit, refused, verdict}
 use Rattle.jobs.specs.SheetLayout.{laidOut}
+use Rattle.jobs.specs.Structure.{Structure, degreeBy, kind, structure}
+use Rattle.jobs.specs.MapLayout.{mapOf}
 
 -- a report at the front of an area; what lies past it stays
 abbrev pub atFront : List ℕ → List ℕ → List ℕ
@@ -23,10 +25,17 @@ sheetAfter f (planned worth) area = atFront (laidOut f) area
 sheetAfter f (noFit l) area = area
 sheetAfter f (refused reason row) area = area
 
--- by what is found and the verdict, on the areas as lent
-abbrev pub areasBy : Findings → Verdict → Areas → Areas
-areasBy f v lent = record { sheet = onLent (sheetAfter f v) (lent .sheet) }
+-- the map area. "The map is written on "planned" and on "no fit"; a refusal leaves it untouched, as are bytes past its end."
+unfoldable pub mapAfter : Structure → Verdict → List ℕ → List ℕ
+unfolding mapOf
+mapAfter t (planned worth) area = atFront (mapOf t) area
+mapAfter t (noFit l) area = atFront (mapOf t) area
+mapAfter t (refused reason row) area = area
+
+-- by what is found, how the job hangs together and the verdict, on the areas as lent
+abbrev pub areasBy : Findings → Structure → Verdict → Areas → Areas
+areasBy f t v lent = record { sheet = onLent (sheetAfter f v) (lent .sheet); map = onLent (mapAfter t v) (lent .map) }
 
 unfoldable pub areasAfter : Call → Areas
-unfolding verdict sheetAfter jobOf leads component familyRun best componentJob chosen slope
-areasAfter c = areasBy (findings (jobOf (c .job))) (verdict c) (c .lent)
+unfolding verdict sheetAfter mapAfter jobOf leads component familyRun best componentJob chosen slope degreeBy kind
+areasAfter c = let j = jobOf (c .job) in areasBy (findings j) (structure j) (verdict c) (c .lent)

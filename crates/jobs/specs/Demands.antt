@@ -1,8 +1,8 @@
--- What is demanded of a plan, for the service port, the installer and the buyer in turn. Each demand is over all that the call is
--- given, the verdict v, and the areas x after the call; what the sheet says is read off its bytes.
+-- What is demanded of a plan, for the service port, the installer, the buyer and the repair bench in turn. Each demand is over all
+-- that the call is given, the verdict v, and the areas x after the call; what a sheet or a map says is read off its bytes.
 use mathlib.Core.Path.{_≡_}
 use mathlib.Core.Logic.{_↔_, _⊎_}
-use mathlib.Core.Bool.{cond}
+use mathlib.Core.Bool.{Bool, false, cond}
 use mathlib.Core.Option.{Option, none, some}
 use mathlib.Core.List.{List}
 use Prim.Native.Nat.{ℕ, _+_, _*_, _≤_, _<_}
@@ -11,16 +11,19 @@ use lib.ListN.{length, take, drop}
 use lib.IntN.{ℤ, pos, _+ℤ_, _*ℤ_}
 use lib.Signed.{_≤ℤ_, _<ℤ_}
 use Rattle.lists.specs.Table.{table}
-use Rattle.bytes.specs.LittleEndian.{u16, u32, i32, i64}
+use Rattle.bytes.specs.LittleEndian.{unsigned, u16, u32, i32, i64}
 use Rattle.jobs.specs.Call.{Areas, Call}
 use Rattle.jobs.specs.Job.{Job, jobOf, variable, equation}
 use Rattle.jobs.specs.Solution.{number, value, IsSolution, objective, Optimal}
 use Rattle.jobs.specs.SheetOffsets.{groupRowsAt}
-use Rattle.jobs.specs.Component.{Joined, IsLead, Numbered}
+use Rattle.jobs.specs.MapOffsets.{mapEquationsAt, mapLength}
+use Rattle.jobs.specs.Component.{Joined, IsLead, Numbered, Joins}
+use Rattle.jobs.specs.Structure.{degree}
 use Rattle.jobs.specs.ReasonTable.{Reported}
 use Rattle.jobs.specs.Verdict.{Verdict, planned, noFit, refused, verdict}
 use Rattle.jobs.specs.AreasAfter.{areasAfter}
 use Rattle.jobs.specs.SheetLayout.{answerMark}
+use Rattle.jobs.specs.MapLayout.{mapMark}
 
 -- ---- areas, before and after a call
 
@@ -35,6 +38,10 @@ KeptFrom n (some area) (some after) = (length after ≡ length area) × (drop n 
 KeptFrom n (some area) none = ⊥
 KeptFrom n none (some after) = ⊥
 KeptFrom n none none = Unit {0}
+
+-- an area that is not lent leaves as it came
+abbrev pub UntouchedUnless : Bool → List ℕ → List ℕ → Type 0
+UntouchedUnless lent before after = lent ≡ false → after ≡ before
 
 -- ---- what stands on a sheet: document 01, "The sheet"; j says how many rows there are
 
@@ -83,6 +90,7 @@ pub record TurnsAway (c : Call) (v : Verdict) (x : Areas) : Type 0 where
   pub exactly : (reason row : ℕ) → (v ≡ refused reason row) ↔ Reported c reason row
   pub untouched : (reason row : ℕ) → v ≡ refused reason row → x ≡ c .lent
   pub past-sheet : (g : ℕ) (group : ℕ → ℕ) → Numbered (jobOf (c .job)) g group → KeptFrom (groupRowsAt (jobOf (c .job)) + 16 * g) (c .lent .sheet) (x .sheet)
+  pub past-map : KeptFrom (mapLength (jobOf (c .job))) (c .lent .map) (x .map)
 
 -- ---- demand 2, the installer
 
@@ -156,6 +164,40 @@ pub record BestOn (j : Job) (w : ℤ) (after : List ℕ) : Type 0 where
 pub record CannotBeBettered (c : Call) (v : Verdict) (x : Areas) : Type 0 where
   pub best : (w : ℤ) → v ≡ planned w → IfLent (x .sheet) (BestOn (jobOf (c .job)) w)
 
+-- ---- demand of the repair bench (document 02, #101): a map area that is lent shows how the job hangs together, on planned and on no
+-- fit; j says how many rows there are
+
+abbrev pub mapGroupOn : List ℕ → ℕ → ℕ
+mapGroupOn after i = u16 after (24 + 4 * i)
+
+abbrev pub namedOn : List ℕ → ℕ → ℕ
+namedOn after i = u16 after (24 + 4 * i + 2)
+
+abbrev pub equationGroupOn : Job → List ℕ → ℕ → ℕ
+equationGroupOn j after k = u16 after (mapEquationsAt j + 4 * k)
+
+abbrev pub kindOn : Job → List ℕ → ℕ → ℕ
+kindOn j after k = u16 after (mapEquationsAt j + 4 * k + 2)
+
+-- groups by 01's number, of the counts and of the equations; how many equations name a count; and kind 1 for those equations that
+-- join two sets which the earlier ones left separate, kind 2 for the others
+pub record MapOn (j : Job) (after : List ℕ) : Type 0 where
+  pub mark : take 4 after ≡ mapMark
+  pub variables : u16 after 4 ≡ length (j .variables)
+  pub equations : u16 after 6 ≡ length (j .equations)
+  pub variable-rows : u32 after 8 ≡ 24
+  pub equation-rows : u32 after 12 ≡ mapEquationsAt j
+  pub groups : Numbered j (u16 after 16) (mapGroupOn after)
+  pub zeros : unsigned 6 after 18 ≡ 0
+  pub named : (i : ℕ) → i < length (j .variables) → namedOn after i ≡ degree j i
+  pub equation-group : (k : ℕ) → k < length (j .equations) → equationGroupOn j after k ≡ mapGroupOn after (equation j k .left)
+  pub joins : (k : ℕ) → k < length (j .equations) → (kindOn j after k ≡ 1) ↔ Joins j k
+  pub rings : (k : ℕ) → k < length (j .equations) → (kindOn j after k ≡ 2) ↔ (¬ Joins j k)
+
+pub record ShowsMap (c : Call) (v : Verdict) (x : Areas) : Type 0 where
+  pub fit : (w : ℤ) → v ≡ planned w → IfLent (x .map) (MapOn (jobOf (c .job)))
+  pub no-fit : (l : ℕ) → v ≡ noFit l → IfLent (x .map) (MapOn (jobOf (c .job)))
+
 -- ---- all that is promised of a planning call: verdict and areas are those of the definitions, and keep the demands
 pub record Plans (c : Call) (v : Verdict) (x : Areas) : Type 0 where
   pub outcome : v ≡ verdict c
@@ -163,3 +205,4 @@ pub record Plans (c : Call) (v : Verdict) (x : Areas) : Type 0 where
   pub refusals : TurnsAway c v x
   pub fits : GivesFits c v x
   pub best : CannotBeBettered c v x
+  pub map : ShowsMap c v x

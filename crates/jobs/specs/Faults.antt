@@ -6,7 +6,7 @@ use mathlib.Core.List.{List}
 use Prim.Native.Nat.{ℕ, _+_, _*_}
 use lib.ListN.{length, take}
 use Rattle.reasons.specs.declared.Reason.{Reason}
-use Rattle.reasons.specs.declared.Reason.the-variants.{ShortJob, WrongMark, TooMany, WrongHeader, VariableRange, EquationVariables, EquationRange, ShortArea, WrongArgument}
+use Rattle.reasons.specs.declared.Reason.the-variants.{ShortJob, WrongMark, TooMany, WrongHeader, VariableRange, EquationVariables, EquationRange, ShortArea, WrongArgument, ShortMap}
 use Rattle.reasons.specs.Numbers.{numberOf, rowOf}
 use Rattle.jobs.specs.declared.Checked.{Checked}
 use Rattle.jobs.specs.declared.Checked.the-variants.{Accepted, Refused}
@@ -17,6 +17,7 @@ use Rattle.bytes.specs.LittleEndian.{u32}
 use Rattle.jobs.specs.Decide.{tested, below?, atMost?, equal?, within?, by, both, either, not?, list?, firstOf}
 use Rattle.jobs.specs.Job.{Variable, Equation, jobOf, form, variableCount, equationCount, equationRowAt, variable, equation}
 use Rattle.jobs.specs.SheetOffsets.{groupRowsAt}
+use Rattle.jobs.specs.MapOffsets.{mapLength}
 use Rattle.jobs.specs.Call.{Call, lendingNothing}
 use Rattle.jobs.specs.Component.{leads, componentCount}
 use Rattle.jobs.specs.ReasonTable.{mark, Header, InRange, Coefficients, Misnamed, Shorter, Broken, checks, Reported, Faultless}
@@ -56,6 +57,7 @@ broken? g c (EquationVariables k) = both (below? k (equationCount (c .job))) (mi
 broken? g c (EquationRange k) = both (below? k (equationCount (c .job))) (not? (coefficients? (equation (jobOf (c .job)) k)))
 broken? g c ShortArea = shorter? (c .lent .sheet) (groupRowsAt (jobOf (c .job)) + 16 * g)
 broken? g c WrongArgument = no (λ h. h)
+broken? g c ShortMap = shorter? (c .lent .map) (mapLength (jobOf (c .job)))
 
 -- with the number of groups that the job has (proofs/Numbering.antt: no other has a numbering, `groups-are`)
 abbrev pub breaks? : (c : Call) (r : Reason) → Dec (Broken (componentCount (jobOf (c .job))) c r)

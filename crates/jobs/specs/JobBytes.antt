@@ -1,4 +1,4 @@
--- The bytes of small jobs, for vectors.
+-- The bytes of small jobs and maps, for vectors.
 use mathlib.Core.List.{List, [], _∷_, _++_}
 use Prim.Native.Nat.{ℕ, _-_}
 
@@ -30,3 +30,10 @@ total left right c = equationBytes left right (plus 1) (plus 1) c
 
 abbrev pub difference : ℕ → ℕ → ℕ → List ℕ
 difference left right c = equationBytes left right (plus 1) (minus 1) c
+
+-- of a map: n counts and m equations, where the equation rows begin, and g groups; and a row's two numbers
+abbrev pub mapHead : ℕ → ℕ → ℕ → ℕ → List ℕ
+mapHead n m rows g = 77 ∷ 65 ∷ 80 ∷ 49 ∷ n ∷ 0 ∷ m ∷ 0 ∷ 24 ∷ 0 ∷ 0 ∷ 0 ∷ rows ∷ 0 ∷ 0 ∷ 0 ∷ g ∷ 0 ∷ 0 ∷ 0 ∷ 0 ∷ 0 ∷ 0 ∷ 0 ∷ []
+
+abbrev pub pair : ℕ → ℕ → List ℕ
+pair x y = x ∷ 0 ∷ y ∷ 0 ∷ []

@@ -1,5 +1,5 @@
 -- What a job is, when it is turned away, what a plan of it is, and what is demanded of one. Read in this order. To be believed is
--- all of it but the decisions in Decide and Faults, Lawful, Bounds, JobBytes, and Vectors, which is theorems.
+-- all of it but the decisions in Decide and Faults, Lawful, Bounds, JobBytes, and Vectors and MapVectors, which are theorems.
 
 -- all that a call is given
 pub mod Call
@@ -15,8 +15,11 @@ pub mod Component
 pub mod Family
 -- all that a report shows
 pub mod Findings
--- where the parts of a sheet stand
+-- how a job hangs together
+pub mod Structure
+-- where the parts of a sheet stand, and those of a map
 pub mod SheetOffsets
+pub mod MapOffsets
 -- the table of reasons, and its order
 pub mod ReasonTable
 -- statements that can be decided
@@ -25,17 +28,19 @@ pub mod Decide
 pub mod Faults
 -- the outcome of a plan
 pub mod Verdict
--- the layout of the sheet
+-- the layout of the sheet, and of the map
 pub mod SheetLayout
+pub mod MapLayout
 -- every area after a call
 pub mod AreasAfter
--- the three demands
+-- the demands
 pub mod Demands
 -- a job that the table does not turn away, as inner functions ask for it
 pub mod Lawful
 -- a job with other bounds, likewise
 pub mod Bounds
--- the bytes of small jobs
+-- the bytes of small jobs and maps
 pub mod JobBytes
--- small jobs through all of them
+-- small jobs through all of them, and calls that lend a map
 pub mod Vectors
+pub mod MapVectors

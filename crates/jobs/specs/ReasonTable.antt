@@ -1,4 +1,4 @@
--- Document 01, the table of reasons: when a call is turned away, and with which reason and row.
+-- Document 01, the table of reasons, with document 02's: when a call is turned away, and with which reason and row.
 use mathlib.Core.Path.{_≡_}
 use mathlib.Core.Logic.{_⊎_, _≢_}
 use mathlib.Core.Option.{Option, none, some}
@@ -6,7 +6,7 @@ use mathlib.Core.List.{List, [], _∷_, _++_, flatMap}
 use Prim.Native.Nat.{ℕ, _+_, _*_, _≤_, _<_}
 use lib.ListN.{length, take}
 use Rattle.reasons.specs.declared.Reason.{Reason}
-use Rattle.reasons.specs.declared.Reason.the-variants.{ShortJob, WrongMark, TooMany, WrongHeader, VariableRange, EquationVariables, EquationRange, ShortArea, WrongArgument}
+use Rattle.reasons.specs.declared.Reason.the-variants.{ShortJob, WrongMark, TooMany, WrongHeader, VariableRange, EquationVariables, EquationRange, ShortArea, WrongArgument, ShortMap}
 use Rattle.reasons.specs.Numbers.{numberOf, rowOf}
 use Rattle.ints.specs.Within.{Within}
 use Rattle.lists.specs.Members.{_∈_}
@@ -15,6 +15,7 @@ use Rattle.runs.specs.Run.{bound}
 use Rattle.runs.specs.Workings.{CarryLimits}
 use Rattle.bytes.specs.LittleEndian.{unsigned, u32}
 use Rattle.jobs.specs.SheetOffsets.{groupRowsAt}
+use Rattle.jobs.specs.MapOffsets.{mapLength}
 use Rattle.jobs.specs.Component.{Numbered}
 use Rattle.jobs.specs.Call.{Call}
 use Rattle.jobs.specs.Job.{Variable, Equation, jobOf, form, variableCount, equationCount, equationRowAt, variable, equation}
@@ -64,6 +65,8 @@ Broken g c (EquationRange k) = (k < equationCount (c .job)) × (¬ Coefficients 
 -- "shorter than 24 + 16n + 16g"
 Broken g c ShortArea = Shorter (c .lent .sheet) (groupRowsAt (jobOf (c .job)) + 16 * g)
 Broken g c WrongArgument = ⊥
+-- "map area shorter than 24 + 4n + 4m [..] only where a map area is lent"
+Broken g c ShortMap = Shorter (c .lent .map) (mapLength (jobOf (c .job)))
 
 -- ---- the order of the table is that of this list: "all count rows come before equation rows, and in one row 6 comes before 7.
 -- Equation rows are taken in turn"
@@ -77,8 +80,9 @@ unfoldable pub rowChecks : List ℕ → List Reason
 unfolding table flatMap unsigned
 rowChecks s = table VariableRange (variableCount s) ++ flatMap equationChecks (upTo (equationCount s))
 
+-- "tested just after 8"
 abbrev pub areaChecks : List Reason
-areaChecks = ShortArea ∷ []
+areaChecks = ShortArea ∷ ShortMap ∷ []
 
 unfoldable pub checks : Call → List Reason
 unfolding rowChecks

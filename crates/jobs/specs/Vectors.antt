@@ -1,6 +1,7 @@
 -- Small jobs through the definitions, byte for byte. What is expected of each was worked out by hand from documents 01 and 02; a row of
 -- a sheet stands on a line, under its fields.
 use mathlib.Core.Path.{_≡_, refl, ap}
+use mathlib.Core.Option.{none}
 use mathlib.Core.List.{List, [], _∷_, _++_, map}
 use Prim.Native.Nat.{ℕ, _+_}
 use lib.ListN.{length, take}
@@ -55,7 +56,7 @@ narrowM =
     -- 2·c0 − 3·c2 = 4
     equationBytes 0 2 (plus 2) (minus 3) 4
 
-abbrev narrowMSheet : List ℕ
+abbrev pub narrowMSheet : List ℕ
 narrowMSheet =
     -- 4 counts, 2 groups, their rows at 88, worth 150
     65 ∷ 78 ∷ 83 ∷ 49 ∷ 4 ∷ 0 ∷ 2 ∷ 0 ∷ 24 ∷ 0 ∷ 0 ∷ 0 ∷ 88 ∷ 0 ∷ 0 ∷ 0 ∷ 150 ∷ 0 ∷ 0 ∷ 0 ∷ 0 ∷ 0 ∷ 0 ∷ 0 ∷ [] ++
@@ -77,13 +78,13 @@ abbrev pub emptySheet : List ℕ
 emptySheet = 65 ∷ 78 ∷ 83 ∷ 49 ∷ 0 ∷ 0 ∷ 0 ∷ 0 ∷ 24 ∷ 0 ∷ 0 ∷ 0 ∷ 24 ∷ 0 ∷ 0 ∷ 0 ∷ 0 ∷ 0 ∷ 0 ∷ 0 ∷ 0 ∷ 0 ∷ 0 ∷ 0 ∷ []
 
 -- two untied counts, with weights of either sign
-abbrev untied : List ℕ
+abbrev pub untied : List ℕ
 untied =
     header 2 0 48 48 ++
     count (minus 2) (plus 3) (plus 5) ++
     count (minus 3) (plus 0) (minus 2)
 
-abbrev untiedSheet : List ℕ
+abbrev pub untiedSheet : List ℕ
 untiedSheet =
     -- 2 counts, 2 groups, their rows at 56, worth 21
     65 ∷ 78 ∷ 83 ∷ 49 ∷ 2 ∷ 0 ∷ 2 ∷ 0 ∷ 24 ∷ 0 ∷ 0 ∷ 0 ∷ 56 ∷ 0 ∷ 0 ∷ 0 ∷ 21 ∷ 0 ∷ 0 ∷ 0 ∷ 0 ∷ 0 ∷ 0 ∷ 0 ∷ [] ++
@@ -150,7 +151,7 @@ twiceSheet =
     4 ∷ 0 ∷ 0 ∷ 0 ∷ 3 ∷ 0 ∷ 0 ∷ 0 ∷ 0 ∷ 0 ∷ 0 ∷ 0 ∷ 0 ∷ 0 ∷ 0 ∷ 0 ∷ []
 
 -- c0 and c2 make one group, c0 − c2 = 0; c1 and c3 make another, by the tie given
-abbrev groups : List ℕ → List ℕ
+abbrev pub groups : List ℕ → List ℕ
 groups tie = header 4 2 72 112 ++ count (plus 0) (plus 3) (plus 1) ++ count (plus 0) (plus 3) (plus 1) ++ plain 3 ++ count (plus 0) (plus 3) (plus 1) ++ difference 0 2 0 ++ tie
 
 -- for c1 + c3 = 3: each of the four fit-outs of the second group makes the worth 6, and the highest c1 comes first, with c3 falling
@@ -297,22 +298,22 @@ vectors =
     untouched (header 2 2 48 88 ++ plain 3 ++ plain 3 ++ total 0 1 3 ++ equationBytes 0 2 (plus 0) (plus 1) 3) 8 (refused 6 1) ∷
     untouched (header 2 2 48 88 ++ plain 3 ++ plain 3 ++ equationBytes 0 1 (plus 0) (plus 1) 3 ++ total 1 1 3) 8 (refused 7 0) ∷ []
 
--- the call that lends it
+-- the call that lends it, and no map
 abbrev pub called : Vector → Call
-called v = callOf (v .job) (areasOf (v .area))
+called v = callOf (v .job) (areasOf (v .area) none)
 
 abbrev given : Vector → Verdict × Areas
 given v = (verdict (called v), areasAfter (called v))
 
 abbrev expected : Vector → Verdict × Areas
-expected v = (v .verdict, areasOf (v .after))
+expected v = (v .verdict, areasOf (v .after) none)
 
 computed : map given vectors ≡ map expected vectors
 unfolding verdict areasAfter table
 computed = refl
 
 -- the definitions give what was worked out, at each of them
-pub worked : (v : Vector) → v ∈ vectors → (verdict (called v) ≡ v .verdict) × (areasAfter (called v) ≡ areasOf (v .after))
+pub worked : (v : Vector) → v ∈ vectors → (verdict (called v) ≡ v .verdict) × (areasAfter (called v) ≡ areasOf (v .after) none)
 worked v h = let e = same-values given expected computed h in (ap (λ p. p .0) e, ap (λ p. p .1) e)
 
 -- ---- the tie-break, at lists of three

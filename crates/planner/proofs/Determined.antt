@@ -1,7 +1,8 @@
 -- The contract of `plan` determines its answer: any two answers that meet it for one call have one outcome and leave the same bytes in
--- the area (`determined`). So where the planner is changed and its contract proved again, every outcome and every byte written stays.
+-- every area, lent or not (`determined`). So where the planner is changed and its contract proved again, every outcome and every byte written stays.
 use mathlib.Core.Path.{_≡_, refl, sym, _∙_, ap}
-use mathlib.Core.Option.{Option·some-injective}
+use mathlib.Core.Bool.{Bool, true, false}
+use mathlib.Core.Option.{Option, Option·some-injective}
 use mathlib.Core.List.{List}
 use Prim.Native.Nat.{ℕ}
 use borrow.Fn.Kinds.{Dens, endedOf}
@@ -9,8 +10,9 @@ use contract.Lifetimes.{Lfts}
 use denote.Ref.{now}
 use denote.Triple.Clauses.{AtExit}
 use Rattle.reasons.proofs.Numbers.{reasonOf, reason-is}
-use Rattle.jobs.specs.Call.{areasOf}
+use Rattle.jobs.specs.Call.{lentAs, areasOf}
 use Rattle.jobs.specs.Verdict.{Verdict, planned, noFit, refused}
+use Rattle.jobs.specs.Demands.{UntouchedUnless}
 use Rattle.planner.specs.Outcome.{Outcome, verdictOf}
 use Rattle.planner.specs.declared.Outcome.the-variants.{Planned, NoFit, Refused}
 use Rattle.planner.proofs.plan.Kinds as plan-kinds
@@ -27,24 +29,35 @@ outcome-is (Planned objective) = refl
 outcome-is (NoFit l) = refl
 outcome-is (Refused r) = ap Refused (reason-is r)
 
--- ---- areas that are lent are told by their bytes
-lent-same : {s t : List ℕ} → areasOf s ≡ areasOf t → s ≡ t
-lent-same {s} {t} e = Option·some-injective s t (ap (λ x. x .sheet) e)
+-- ---- areas are told by their bytes
+-- the one that is always lent
+sheet-same : {s t : List ℕ} {o p : Option (List ℕ)} → areasOf s o ≡ areasOf t p → s ≡ t
+sheet-same {s} {t} e = Option·some-injective s t (ap (λ x. x .sheet) e)
+
+-- and one that is lent, or left as it came
+map-same : (lent : Bool) {s t u v : List ℕ} {before : List ℕ} → areasOf s (lentAs lent u) ≡ areasOf t (lentAs lent v) → UntouchedUnless lent before u → UntouchedUnless lent before v → u ≡ v
+map-same true {s} {t} {u} {v} e p q = Option·some-injective u v (ap (λ x. x .map) e)
+map-same false e p q = p refl ∙ sym (q refl)
 
 -- ---- what a call of `plan` is given, what it leaves, and all that its contract promises of these and of its answer; κs are the
--- lifetimes of its two references
-module _ (κs : Lfts 2) where
+-- lifetimes of its three references
+module _ (κs : Lfts 3) where
   abbrev pub Given : Type 0
   Given = Dens κs plan-kinds.ps
 
   abbrev pub Left : Type 0
-  Left = AtExit (endedOf 2 plan-kinds.ps plan-kinds.r) κs
+  Left = AtExit (endedOf 3 plan-kinds.ps plan-kinds.r) κs
 
   abbrev pub areaIn : Left → List ℕ
   areaIn x = now (x .1 .0)
 
+  abbrev pub mapIn : Left → List ℕ
+  mapIn x = now (x .1 .1 .0)
+
   abbrev pub Promised : Given → Outcome → Left → Type 0
   Promised = plan-reads.Post κs
 
-  pub determined : (call : Given) (r s : Outcome) (x y : Left) → Promised call r x → Promised call s y → (r ≡ s) × (areaIn x ≡ areaIn y)
-  determined call r s x y p q = (sym (outcome-is r) ∙ ap outcomeOf (p .outcome ∙ sym (q .outcome)) ∙ outcome-is s, lent-same (p .areas ∙ sym (q .areas)))
+  pub determined : (call : Given) (r s : Outcome) (x y : Left) → Promised call r x → Promised call s y → (r ≡ s) × ((areaIn x ≡ areaIn y) × (mapIn x ≡ mapIn y))
+  determined call r s x y p q =
+      let e = p .0 .areas ∙ sym (q .0 .areas) in
+      (sym (outcome-is r) ∙ ap outcomeOf (p .0 .outcome ∙ sym (q .0 .outcome)) ∙ outcome-is s, (sheet-same e, map-same (call .1 .1 .1 .0 .map) e (p .1) (q .1)))

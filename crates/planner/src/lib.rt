@@ -5,7 +5,7 @@
 ghost use mathlib.Core.Path.{_≡_};
 ghost use Prim.Native.Nat.{_+_, _*_, _≤_};
 ghost use lib.ListN.{length};
-ghost use Rattle.jobs.specs.Call.{areasOf, callOf};
+ghost use Rattle.jobs.specs.Call.{callOf};
 ghost use Rattle.jobs.specs.Job.{jobOf, variableCount, equationCount};
 ghost use Rattle.jobs.specs.Solution.{number};
 ghost use Rattle.jobs.specs.Component.{componentCount};
@@ -16,13 +16,15 @@ ghost use Rattle.jobs.specs.Findings.{findings};
 ghost use Rattle.jobs.specs.Verdict.{planned, fitting, verdict};
 ghost use Rattle.jobs.specs.SheetLayout.{laidOut};
 ghost use Rattle.jobs.specs.AreasAfter.{sheetAfter, areasAfter};
-ghost use Rattle.jobs.specs.Demands.{Plans};
+ghost use Rattle.jobs.specs.Demands.{UntouchedUnless, Plans};
 ghost use Rattle.families.specs.ModelFindings.{leadsBy, findingsBy};
 ghost use Rattle.solver.specs.StateArrays.{labelIn, runIn};
 ghost use Rattle.solver.specs.Labels.{Lowest};
 ghost use Rattle.bytes.specs.Over.{over};
 ghost use Rattle.planner.specs.Choice.{Members, NoneEmpty, AllWithin};
 ghost use Rattle.planner.specs.Outcome.{verdictOf};
+ghost use Rattle.planner.specs.Lending.{areasIn};
+ghost use Rattle.planner.specs.Survey.{Surveyed};
 use choose::Found;
 use jobs::Checked;
 use jobs::header;
@@ -30,12 +32,17 @@ use reasons::Reason;
 use solver::State;
 use solver::components;
 use solver::equations;
+use solver::structure;
 use solver::variables;
 
 // the choice in each component
 mod choose;
+// the mark of a report
+mod mark;
 // the sheet
 mod sheet;
+// the map
+mod map;
 
 /// The planner's answer.
 pub enum Outcome {
@@ -43,37 +50,76 @@ pub enum Outcome {
     Planned(i64),
     /// No numbers fit; this is the lowest variable of the first component that has none.
     NoFit(u16),
-    /// The job is faulty or the answer area too short; nothing is written.
+    /// The job is faulty or an area too short; nothing is written.
     Refused(Reason),
 }
 
-/// Plans a job: any bytes, and any answer area. The verdict and the area afterwards are those of the definitions, and they keep
-/// the three demands: of the service port, of the installer and of the buyer.
-pub fn plan(job: &[u8], area: &mut [u8]) -> Outcome
-    ensures { λ r. ⌜ Plans (callOf (now (job .entry)) (areasOf (now (area .entry)))) (verdictOf r) (areasOf (now (area .exit))) ⌝ }
+/// What the areas of a call have room for.
+pub enum Survey {
+    /// The answer area is too short for the sheet; nothing is written.
+    ShortArea,
+    /// A map area is lent, and too short for the map; nothing is written.
+    ShortMap,
+    /// All are long enough, and the map is written where one is lent; so many components there are.
+    Mapped(usize),
+}
+
+/// Which of the areas that a call may lend it does lend. The answer area is always lent.
+pub struct Lent {
+    pub map: bool,
+}
+
+/// Plans a job: any bytes, and any areas. The verdict and the areas afterwards are those of the definitions, and they keep the
+/// demands of the service port, of the installer, of the buyer and of the repair bench. A map area that is not lent stays as it is.
+pub fn plan(job: &[u8], area: &mut [u8], map: &mut [u8], lent: Lent) -> Outcome
+    ensures { λ r. ⌜ Plans (callOf (now (job .entry)) (areasIn lent (now (area .entry)) (now (map .entry)))) (verdictOf r) (areasIn lent (now (area .exit)) (now (map .exit))) ⌝ }
+    ensures { λ _. ⌜ UntouchedUnless (lent .map) (now (map .entry)) (now (map .exit)) ⌝ }
 {
     let checked = jobs::check(job);
     match checked {
         Checked::Refused(reason) => Outcome::Refused(reason),
-        Checked::Accepted => fitted(job, area),
+        Checked::Accepted => fitted(job, area, map, lent),
     }
 }
 
-// The plan of a job that the check accepts. Whether the area is long enough is asked before any fit is sought.
-fn fitted(job: &[u8], area: &mut [u8]) -> Outcome
+// The plan of a job that the check accepts. Whether the areas are long enough is asked before any fit is sought and anything written.
+fn fitted(job: &[u8], area: &mut [u8], map: &mut [u8], lent: Lent) -> Outcome
     requires { ⌜ Lawful (now job) ⌝ }
     requires { ⌜ checked (now job) ≡ accepted ⌝ }
-    ensures { λ r. ⌜ verdictOf r ≡ verdict (callOf (now (job .entry)) (areasOf (now (area .entry)))) ⌝ }
-    ensures { λ _. ⌜ areasOf (now (area .exit)) ≡ areasAfter (callOf (now (job .entry)) (areasOf (now (area .entry)))) ⌝ }
+    ensures { λ r. ⌜ verdictOf r ≡ verdict (callOf (now (job .entry)) (areasIn lent (now (area .entry)) (now (map .entry)))) ⌝ }
+    ensures { λ _. ⌜ areasIn lent (now (area .exit)) (now (map .exit)) ≡ areasAfter (callOf (now (job .entry)) (areasIn lent (now (area .entry)) (now (map .entry)))) ⌝ }
+    ensures { λ _. ⌜ UntouchedUnless (lent .map) (now (map .entry)) (now (map .exit)) ⌝ }
 {
     let n = header::variable_count(job);
     let m = header::equation_count(job);
-    let lowest = components::lowest(job, n, m);
-    let g = components::count(lowest, n);
-    if area.len() < sheet::length(n, g) {
-        return Outcome::Refused(Reason::ShortArea);
+    let room = area.len();
+    let survey = surveyed(job, map, lent.map, n, m, room);
+    match survey {
+        Survey::ShortArea => Outcome::Refused(Reason::ShortArea),
+        Survey::ShortMap => Outcome::Refused(Reason::ShortMap),
+        Survey::Mapped(g) => solved(job, area, n, m, g),
     }
-    solved(job, area, n, m, g)
+}
+
+// Are the answer area, of `room` bytes, and the map area, where it is lent, long enough for a job with n variables and m equations? If so,
+// the map is written. The arrays of the job's structure end here, so that their stack serves the families too.
+fn surveyed(job: &[u8], map: &mut [u8], lent: bool, n: usize, m: usize, room: usize) -> Survey
+    requires { ⌜ Lawful (now job) ⌝ }
+    requires { ⌜ n ≡ variableCount (now job) ⌝ }
+    requires { ⌜ m ≡ equationCount (now job) ⌝ }
+    ensures { λ r. ⌜ Surveyed (jobOf (now (job .entry))) room lent (now (map .entry)) (now (map .exit)) r ⌝ }
+{
+    let structure = structure::of_job(job, n, m);
+    let labels = structure.labels;
+    let g = components::count(labels, n);
+    if room < sheet::length(n, g) {
+        return Survey::ShortArea;
+    }
+    if map::is_short(map, lent, n, m) {
+        return Survey::ShortMap;
+    }
+    map::write(map, lent, structure, n, m, g);
+    Survey::Mapped(g)
 }
 
 // The plan of a job with n variables in g components and m equations, into an area that is long enough.

@@ -5,7 +5,7 @@ ghost use Prim.Native.Nat.{_+_, _*_, _≤_, _<_};
 ghost use lib.ListN.{length, getD};
 ghost use Rattle.ints.specs.Within.{Within};
 ghost use Rattle.jobs.specs.Solution.{number};
-ghost use Rattle.jobs.specs.SheetLayout.{answerMark, sheetHeader, sheetVariable, sheetGroup, sheetVariables, sheetGroups, laidOut};
+ghost use Rattle.jobs.specs.SheetLayout.{sheetHeader, sheetVariable, sheetGroup, sheetVariables, sheetGroups, laidOut};
 ghost use Rattle.families.specs.FamilyRun.{FamilyRun};
 ghost use Rattle.families.specs.Family.{choice};
 ghost use Rattle.families.specs.ModelFindings.{leadsBy};
@@ -14,6 +14,7 @@ ghost use Rattle.solver.specs.Labels.{Lowest};
 ghost use Rattle.bytes.specs.Over.{over};
 ghost use Rattle.planner.specs.Choice.{FamilyRuns, Members, NoneEmpty, AllWithin, chosenIn, findingsIn};
 use crate::choose;
+use crate::mark;
 use runs::Run;
 use solver::components;
 
@@ -62,22 +63,12 @@ fn header(area: &mut [u8], n: usize, g: usize, objective: i64)
     requires { ⌜ 24 ≤ length (now area) ⌝ }
     ensures { λ _. ⌜ now (area .exit) ≡ over 0 (sheetHeader n g objective) (now (area .entry)) ⌝ }
 {
-    mark(area);
+    mark::put(area, MARK);
     bytes::put(area, 4, 2, n as u64);
     bytes::put(area, 6, 2, g as u64);
     bytes::put(area, 8, 4, 24);
     bytes::put(area, 12, 4, 24 + 16 * n as u64);
     bytes::put_i64(area, 16, objective);
-}
-
-fn mark(area: &mut [u8])
-    requires { ⌜ 4 ≤ length (now area) ⌝ }
-    ensures { λ _. ⌜ now (area .exit) ≡ over 0 answerMark (now (area .entry)) ⌝ }
-{
-    area[0] = MARK[0];
-    area[1] = MARK[1];
-    area[2] = MARK[2];
-    area[3] = MARK[3];
 }
 
 // The row of a variable, from a place on.

@@ -4,12 +4,12 @@ use mathlib.Core.List.{[], _∷_}
 use Prim.Native.Nat.{ℕ}
 use lib.ListN.{getD}
 use Rattle.reasons.specs.declared.Reason.{Reason}
-use Rattle.reasons.specs.declared.Reason.the-variants.{ShortJob, WrongMark, TooMany, WrongHeader, VariableRange, EquationVariables, EquationRange, ShortArea, WrongArgument}
+use Rattle.reasons.specs.declared.Reason.the-variants.{ShortJob, WrongMark, TooMany, WrongHeader, VariableRange, EquationVariables, EquationRange, ShortArea, WrongArgument, ShortMap}
 use Rattle.reasons.specs.Numbers.{numberOf, rowOf}
 
 abbrev pub reasonOf : ℕ → ℕ → Reason
 reasonOf number row =
-    getD (WrongArgument ∷ ShortJob ∷ WrongMark ∷ TooMany ∷ WrongHeader ∷ VariableRange row ∷ EquationVariables row ∷ EquationRange row ∷ ShortArea ∷ [])
+    getD (WrongArgument ∷ ShortJob ∷ WrongMark ∷ TooMany ∷ WrongHeader ∷ VariableRange row ∷ EquationVariables row ∷ EquationRange row ∷ ShortArea ∷ WrongArgument ∷ ShortMap ∷ [])
     number WrongArgument
 
 pub reason-is : (r : Reason) → reasonOf (numberOf r) (rowOf r) ≡ r
@@ -22,3 +22,4 @@ reason-is (EquationVariables row) = refl
 reason-is (EquationRange row) = refl
 reason-is ShortArea = refl
 reason-is WrongArgument = refl
+reason-is ShortMap = refl

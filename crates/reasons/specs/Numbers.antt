@@ -1,7 +1,7 @@
--- Document 01, the table of reasons: the number of each case, and the row that is reported with it.
+-- Document 01, the table of reasons, with document 02's: the number of each case, and the row that is reported with it.
 use Prim.Native.Nat.{ℕ}
 use Rattle.reasons.specs.declared.Reason.{Reason}
-use Rattle.reasons.specs.declared.Reason.the-variants.{ShortJob, WrongMark, TooMany, WrongHeader, VariableRange, EquationVariables, EquationRange, ShortArea, WrongArgument}
+use Rattle.reasons.specs.declared.Reason.the-variants.{ShortJob, WrongMark, TooMany, WrongHeader, VariableRange, EquationVariables, EquationRange, ShortArea, WrongArgument, ShortMap}
 
 abbrev pub numberOf : Reason → ℕ
 numberOf ShortJob = 1
@@ -13,6 +13,7 @@ numberOf (EquationVariables row) = 6
 numberOf (EquationRange row) = 7
 numberOf ShortArea = 8
 numberOf WrongArgument = 9
+numberOf ShortMap = 10
 
 -- "For the other reasons the row is 0."
 abbrev pub rowOf : Reason → ℕ
@@ -25,3 +26,4 @@ rowOf (EquationVariables row) = row
 rowOf (EquationRange row) = row
 rowOf ShortArea = 0
 rowOf WrongArgument = 0
+rowOf ShortMap = 0

@@ -1,12 +1,12 @@
 //! Why a job or an argument is turned away. One enum for the whole program: every refusal carries a `Reason`.
 //!
-//! Read `specs/Numbers.antt` beside this file: it gives document 01's number and row of each case; `specs/Answer.antt` says what a
+//! Read `specs/Numbers.antt` beside this file: it gives the papers' number and row of each case; `specs/Answer.antt` says what a
 //! working answers.
 
 ghost use mathlib.Core.Path.{_≡_};
 ghost use Rattle.reasons.specs.Numbers.{numberOf, rowOf};
 
-/// The reasons of document 01's table, in its order. A case that the table reports with a row carries that row.
+/// The reasons of document 01's table, in its order, and those that document 02 adds. A case that the table reports with a row carries that row.
 /// What the papers call a count is a variable here.
 pub enum Reason {
     /// The job has fewer bytes than its header.
@@ -27,10 +27,12 @@ pub enum Reason {
     ShortArea,
     /// An argument of a working lies outside its limits, or a run is not in its one form.
     WrongArgument,
+    /// The map area is too short for the map.
+    ShortMap,
 }
 
 impl Reason {
-    /// The number that document 01 gives the reason.
+    /// The number that the papers give the reason.
     pub fn number(self) -> u16
         ensures { λ r. ⌜ r ≡ numberOf self ⌝ }
     {
@@ -44,6 +46,7 @@ impl Reason {
             Reason::EquationRange(_) => 7,
             Reason::ShortArea => 8,
             Reason::WrongArgument => 9,
+            Reason::ShortMap => 10,
         }
     }
 
@@ -61,6 +64,7 @@ impl Reason {
             Reason::EquationRange(row) => row,
             Reason::ShortArea => 0,
             Reason::WrongArgument => 0,
+            Reason::ShortMap => 0,
         }
     }
 }

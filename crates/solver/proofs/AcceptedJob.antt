@@ -2,10 +2,9 @@
 -- rows are its own.
 use mathlib.Core.Path.{_≡_, sym, _∙_, ap, subst}
 use mathlib.Core.List.{List}
-use Prim.Native.Nat.{ℕ}
+use Prim.Native.Nat.{ℕ, _<_}
 use lib.Dec.{eqb}
 use lib.ListN.{length}
-use Rattle.lists.specs.Members.{_∈_}
 use Rattle.lists.specs.Keep.{keep}
 use Rattle.lists.specs.Table.{upTo}
 use Rattle.lists.proofs.Keep.{keep-same}
@@ -39,13 +38,23 @@ module _ (s : List ℕ) (n m : ℕ) (p : n ≡ variableCount s) (q : m ≡ equat
   pub vars : n ≡ length (jobOf s .variables)
   vars = p ∙ sym (variables-of s)
 
-  -- the components that are counted are those of the definition
-  pub counted : (labels : List ℕ) (g : ℕ) → Labels (jobOf s) m n labels → g ≡ length (leadsBy (labelIn labels) n) → g ≡ componentCount (jobOf s)
-  unfolding leads lowest leadsBy
-  counted labels g a e = e ∙ ap length (keep-same (λ i. eqb (labelIn labels i) i) (λ i. eqb (lowest (jobOf s) i) i) (upTo n) same) ∙ ap (λ n. length (keep (λ i. eqb (lowest (jobOf s) i) i) (upTo n))) vars
-    where
-      same : (i : ℕ) → i ∈ upTo n → eqb (labelIn labels i) i ≡ eqb (lowest (jobOf s) i) i
-      same i h = ap (λ l. eqb l i) (a .at i (in-upTo n i .0 h) ∙ ap (λ m. lowestBy (jobOf s) m i) (q ∙ sym (equations-of s)))
+  pub ties : m ≡ length (jobOf s .equations)
+  ties = q ∙ sym (equations-of s)
+
+  -- the labels are the lowest variables of the definition, and so are those that lead
+  module _ (labels : List ℕ) (a : Labels (jobOf s) m n labels) where
+    pub label-is : (i : ℕ) → i < n → labelIn labels i ≡ lowest (jobOf s) i
+    unfolding lowest
+    label-is i h = a .at i h ∙ ap (λ m. lowestBy (jobOf s) m i) ties
+
+    pub leads-are : leadsBy (labelIn labels) n ≡ leads (jobOf s)
+    unfolding leads leadsBy
+    leads-are =
+        keep-same (λ i. eqb (labelIn labels i) i) (λ i. eqb (lowest (jobOf s) i) i) (upTo n) (λ i h. ap (λ l. eqb l i) (label-is i (in-upTo n i .0 h)))
+        ∙ ap (λ n. keep (λ i. eqb (lowest (jobOf s) i) i) (upTo n)) vars
+
+    pub counted : (g : ℕ) → g ≡ length (leadsBy (labelIn labels) n) → g ≡ componentCount (jobOf s)
+    counted g e = e ∙ ap length leads-are
 
   module _ (bounds : List Bounds) (b : BoundsOf (jobOf s) n bounds) where
     own : BoundsOf (jobOf s) (length (jobOf s .variables)) bounds

@@ -1,5 +1,6 @@
 -- The rows of a lawful job, as the loops over its equations read them.
 use mathlib.Core.Path.{_≡_}
+use mathlib.Core.Logic.{_≢_}
 use mathlib.Core.List.{List}
 use Prim.Native.Nat.{ℕ, _≤_, _<_}
 use native.Mathlib.Omega.{arith}
@@ -16,6 +17,9 @@ module _ {s : List ℕ} {n m : ℕ} (z : Sizes s n m) where
   pub n-most : n ≤ 256
   n-most = omega (arith, z .1 .0, z .0 .rows .variables)
 
+  pub m-most : m ≤ 1024
+  m-most = omega (arith, z .1 .1, z .0 .rows .equations)
+
   pub row-asked : (k : ℕ) → k < m → RowsInside s × ((n ≡ variableCount s) × (k < equationCount s))
   row-asked k h = (z .0 .rows, (z .1 .0, omega (arith, z .1 .1)))
 
@@ -29,3 +33,6 @@ module _ {s : List ℕ} {n m : ℕ} (z : Sizes s n m) where
 
     pub right-below : e .right < n
     right-below = lawful .right
+
+    pub different-variables : e .left ≢ e .right
+    different-variables = lawful .different

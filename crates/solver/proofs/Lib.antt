@@ -16,6 +16,8 @@ pub mod CodeFollowsModel
 pub mod OwnBounds
 -- the rows of a lawful job
 pub mod LawfulRows
+-- the pass over the equations, one at a time: `Through`, `begins`, `onward`
+pub mod StructurePass
 -- the arrays follow the model, for bytes and bounds
 pub mod FollowsWithBounds
 -- a job that the check accepts is lawful (`accepts`), and what is read of it is its own (`counted`, `bounded`)

@@ -6,12 +6,9 @@ ghost use Prim.Native.Nat.{_≤_, _<_, min};
 ghost use lib.Dec.{eqb};
 ghost use lib.ListN.{length};
 ghost use Rattle.lists.specs.Table.{Tabulates};
-ghost use Rattle.jobs.specs.Job.{jobOf, variableCount, equationCount};
-ghost use Rattle.jobs.specs.Lawful.{Lawful};
-ghost use Rattle.solver.specs.Labels.{Apart, Labelled, Lowest, Merges, Labels};
+ghost use Rattle.solver.specs.Labels.{Apart, Labelled, Lowest, Merges};
 ghost use Rattle.solver.specs.StateArrays.{labelIn};
 ghost use Rattle.families.specs.ModelFindings.{leadsBy, componentBy};
-use jobs::Equation;
 
 // Does an equation between variables of these components join two sets that earlier rows left separate?
 pub(crate) fn joins(left: u16, right: u16) -> bool
@@ -73,29 +70,6 @@ fn renamed(labels: [u16; 256], high: u16, low: u16, n: usize) -> [u16; 256]
         i += 1;
     }
     out
-}
-
-/// The lowest variable that the m equations of a job join to each of its n variables.
-pub fn lowest(job: &[u8], n: usize, m: usize) -> [u16; 256]
-    requires { ⌜ Lawful (now job) ⌝ }
-    requires { ⌜ n ≡ variableCount (now job) ⌝ }
-    requires { ⌜ m ≡ equationCount (now job) ⌝ }
-    ensures { λ r. ⌜ Labels (jobOf (now (job .entry))) m n r ⌝ }
-{
-    let mut labels = apart();
-    let mut k: usize = 0;
-    while k < m {
-        let e = Equation::read(job, n, k);
-        let left = e.left;
-        let right = e.right;
-        let l = labels[left];
-        let r = labels[right];
-        if joins(l, r) {
-            labels = joined(labels, l, r, n);
-        }
-        k += 1;
-    }
-    labels
 }
 
 /// How many components n variables are in: 01's g.

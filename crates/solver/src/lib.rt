@@ -12,6 +12,8 @@ mod cycle;
 mod join;
 // components, by their lowest variables
 pub mod components;
+// how a job hangs together
+pub mod structure;
 // the variables' rows
 pub mod variables;
 // where every variable begins

@@ -1,5 +1,6 @@
 //! What the planner answers, in numbers.
 
+use planner::Lent;
 use planner::Outcome;
 
 pub struct Answer {
@@ -33,7 +34,7 @@ pub(crate) fn refused(reason: u16, row: u16) -> Answer {
 
 /// The planner's own.
 pub(crate) fn of(job: &[u8], area: &mut [u8]) -> Answer {
-    let outcome = planner::plan(job, area);
+    let outcome = planner::plan(job, area, &mut [], Lent { map: false });
     match outcome {
         Outcome::Planned(worth) => new(PLANNED, residue(worth)),
         Outcome::NoFit(variable) => new(NO_FIT, variable as u64),

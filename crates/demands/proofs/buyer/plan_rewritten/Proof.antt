@@ -1,9 +1,10 @@
 -- `buyer::plan_rewritten` keeps the demand: every byte is the planner's.
 use mathlib.Core.Path.{_∙_}
 use borrow.Author.Needs.{needs}
-use Rattle.jobs.specs.Call.{areasOf, callOf}
+use Rattle.jobs.specs.Call.{callOf}
 use Rattle.jobs.specs.Demands.{CannotBeBettered}
 use Rattle.planner.specs.Outcome.{verdictOf}
+use Rattle.planner.specs.Lending.{areasIn}
 use Rattle.demands.proofs.Carried.{as-it-was, again}
 use Rattle.demands.proofs.buyer.plan_rewritten.Statement.{statement}
 use Rattle.demands.proofs.buyer.plan_rewritten.Tie as tie
@@ -16,10 +17,10 @@ returns c =
     let put = apart .before .before .before .before in
     let get2 = put .before .before in
     let told = get2 .before .before in
-    let plan = told .before .before .before in
-    let s = plan .before .before .before .before .before .args in
-    as-it-was (CannotBeBettered (callOf (s .job .now) (areasOf (s .area .now))) (verdictOf (plan .plan .result)))
-    (plan .plan .ensures .best)
+    let plan = told .before .before .before .before .before in
+    let s = plan .before .before .before .before .before .before .before .args in
+    as-it-was (CannotBeBettered (callOf (s .job .now) (areasIn (s .lent) (s .area .now) (s .map .now))) (verdictOf (plan .plan .result)))
+    (plan .plan .ensures .0 .best)
     (again (apart .is-apart .result) (put .put .last .0) (put2 .put2 .last .0) 40 (get3 .get3 .result) (get3 .get3 .ensures) (put2 .put2 .ensures)
     ∙ again (told .is-planned .result) (plan .plan .last .1 .0) (put .put .last .0) 24 (get2 .get2 .result) (get2 .get2 .ensures) (put .put .ensures))
 
@@ -27,4 +28,4 @@ pub plan-rewritten-spec : {M : Type 1} → statement M
 plan-rewritten-spec =
     tie.close
     (tie.spec (search needs) (search needs) (search needs) (search needs) (search needs) (search needs) (search needs)
-    (search needs) (search needs) returns)
+    (search needs) (search needs) (search needs) returns)

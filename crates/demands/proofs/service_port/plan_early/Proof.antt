@@ -1,18 +1,19 @@
 -- `service_port::plan_early` keeps the demand: so far as it turns away, the definitions do.
 use native.Mathlib.Omega.{arith}
 use borrow.Author.Needs.{needs}
-use Rattle.jobs.specs.Call.{areasOf, callOf}
+use Rattle.jobs.specs.Call.{callOf}
 use Rattle.jobs.specs.Demands.{TurnsAway}
 use Rattle.jobs.proofs.DemandsHold.{turns-away}
+use Rattle.planner.specs.Lending.{areasIn}
 use Rattle.demands.proofs.Carried.{turned-early}
 use Rattle.demands.proofs.service_port.plan_early.Statement.{statement}
 use Rattle.demands.proofs.service_port.plan_early.Tie as tie
 
 returns : tie.Need-returns
 returns c =
-    let a = c .before .before .before .args in
-    let call = callOf (a .job .now) (areasOf (a .area .now)) in
+    let a = c .before .before .before .before .args in
+    let call = callOf (a .job .now) (areasIn (a .lent) (a .area .now) (a .map .now)) in
     turned-early (TurnsAway call) call (omega (arith, c .if1 .taken)) (turns-away call)
 
 pub plan-early-spec : {M : Type 1} → statement M
-plan-early-spec = tie.close (tie.spec returns (search needs) (search needs) (λ c. search needs))
+plan-early-spec = tie.close (tie.spec returns (search needs) (search needs) (search needs) (λ c. search needs))

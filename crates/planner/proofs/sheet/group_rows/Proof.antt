@@ -19,7 +19,8 @@ use Rattle.planner.specs.Choice.{chosenIn}
 use Rattle.solver.proofs.LowestVariables.{leads-none, leads-yes, leads-no, leads-length, leads-mono}
 use Rattle.bytes.proofs.Over.{over-none, over-same}
 use Rattle.solver.proofs.In64Bits.{held-element}
-use Rattle.planner.proofs.SheetRows.{laid, laid-length, groups-none, groups-yes, groups-no}
+use Rattle.planner.proofs.ReportRows.{laid, laid-length}
+use Rattle.planner.proofs.SheetRows.{groups-none, groups-yes, groups-no}
 use Rattle.planner.proofs.sheet.group_rows.Statement.{statement}
 use Rattle.planner.proofs.sheet.group_rows.Tie as tie
 
@@ -34,7 +35,7 @@ long labels runs slopes i = length-groups (runIn runs) (chosenIn runs slopes) (n
 kept : (labels : List ℕ) (runs : List Run) (slopes : List ℤ) (n i : ℕ) (a x : List ℕ) → i ≤ n → 16 * length (leadsBy (labelIn labels) n) ≤ length a →
     x ≡ over 0 (rows labels runs slopes i) a → length x ≡ length a
 kept labels runs slopes n i a x h l e =
-    laid-length 0 (length (leadsBy (labelIn labels) i)) (rows labels runs slopes i) a x (long labels runs slopes i)
+    laid-length 16 0 (length (leadsBy (labelIn labels) i)) (rows labels runs slopes i) a x (long labels runs slopes i)
     (omega (arith, leads-mono (labelIn labels) i n h, l)) e
 
 -- at the lowest variable i of a component there is room for a row
@@ -86,7 +87,7 @@ loop-again c =
       omega arith,
       (
         w .8 ∙ more g (l .i) (l .at) (w .0 .taken) (l .inv .1 .0),
-        w .7 ∙ laid 0 (length (leadsBy g (l .i))) (rows (x .t2) (x .t3) (x .t4) (l .i)) (sheetGroup (runIn (x .t3) (l .i) .many) (chosenIn (x .t3) (x .t4) (l .i)) (number (x .t4) (l .i))) (x .part .now) (l .part) _ (long (x .t2) (x .t3) (x .t4) (l .i))
+        w .7 ∙ laid 16 0 (length (leadsBy g (l .i))) (rows (x .t2) (x .t3) (x .t4) (l .i)) (sheetGroup (runIn (x .t3) (l .i) .many) (chosenIn (x .t3) (x .t4) (l .i)) (number (x .t4) (l .i))) (x .part .now) (l .part) _ (long (x .t2) (x .t3) (x .t4) (l .i))
             (omega (arith, room g (x .n) (l .i) (x .part .now) (omega arith) (w .0 .taken) (s .pre .1 .0))) (omega (arith, l .inv .1 .0)) (l .inv .1 .1)
             (over-same (l .at) (l .part) _ (ap (λ z. sheetGroup (runIn (x .t3) (l .i) .many) (choice z (runIn (x .t3) (l .i) .many)) z) (held-element (getD (x .t4) (l .i) (pos 0)) (w .3 .given))) (w .4 .ensures))
             ∙ ap (λ b. over 0 b (x .part .now)) (groups-yes (labelIn (x .t2)) (runIn (x .t3)) (chosenIn (x .t3) (x .t4)) (number (x .t4)) (l .i) (w .0 .taken)),

@@ -37,11 +37,11 @@ returns c =
     let s = q1 .before .before .before in
     let x = s .args in
     row (x .n) (x .g) (x .objective) (x .area .now) _ _ _ _ _ _ (s .pre .1 .1)
-    (q1 .mark .ensures)
-    (q2 .put .ensures)
-    (q3 .put2 .ensures)
-    (q4 .put3 .ensures)
-    (q5 .put4 .ensures)
+    (q1 .put .ensures)
+    (q2 .put2 .ensures)
+    (q3 .put3 .ensures)
+    (q4 .put4 .ensures)
+    (q5 .put5 .ensures)
     (over-same 16 _ _ (ap (signedBytes 8) (toZ-ofZ (s .fits .objective))) (q6 .put-i64 .ensures))
 
 pub header-spec : {M : Type 1} → statement M

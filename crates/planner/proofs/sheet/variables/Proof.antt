@@ -14,7 +14,8 @@ use Rattle.solver.specs.StateArrays.{runIn}
 use Rattle.solver.proofs.In64Bits.{held-within}
 use Rattle.bytes.specs.Over.{over}
 use Rattle.bytes.proofs.Over.{over-none, over-same}
-use Rattle.planner.proofs.SheetRows.{laid, laid-length, variables-none, variables-next}
+use Rattle.planner.proofs.ReportRows.{laid, laid-length}
+use Rattle.planner.proofs.SheetRows.{variables-none, variables-next}
 use Rattle.planner.proofs.sheet.variables.Statement.{statement}
 use Rattle.planner.proofs.sheet.variables.Tie as tie
 
@@ -31,13 +32,13 @@ abbrev μ-loop : tie.MeasureT-loop
 module _ (runs : List Run) (numbers : List ℤ) (components : List ℕ) (a x : List ℕ) where
   -- the area stays as long as it is
   kept : (n i : ℕ) → i ≤ n → 24 + 16 * n ≤ length a → x ≡ over 24 (rows runs numbers components i) a → length x ≡ length a
-  kept n i h room e = laid-length 24 i (rows runs numbers components i) a x (length-variables (number numbers) (runIn runs) (λ k. getD components k 0) i) (omega arith) e
+  kept n i h room e = laid-length 16 24 i (rows runs numbers components i) a x (length-variables (number numbers) (runIn runs) (λ k. getD components k 0) i) (omega arith) e
 
   -- one row more
   more : (n i : ℕ) (y : List ℕ) → i ≤ n → 24 + 16 * n ≤ length a → x ≡ over 24 (rows runs numbers components i) a →
       y ≡ over (24 + 16 * i) (sheetVariable (number numbers i) (runIn runs i) (getD components i 0)) x → y ≡ over 24 (rows runs numbers components (i + 1)) a
   more n i y h room e f =
-      laid 24 i (rows runs numbers components i) (sheetVariable (number numbers i) (runIn runs i) (getD components i 0)) a x y
+      laid 16 24 i (rows runs numbers components i) (sheetVariable (number numbers i) (runIn runs i) (getD components i 0)) a x y
       (length-variables (number numbers) (runIn runs) (λ k. getD components k 0) i) (omega arith) refl e f
       ∙ ap (λ b. over 24 b a) (variables-next (number numbers) (runIn runs) (λ k. getD components k 0) i)
 
