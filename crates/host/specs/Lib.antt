@@ -1,0 +1,2 @@
+-- What C is handed for every answer.
+pub mod Answers
