@@ -20,7 +20,7 @@ use crate::spoiled;
 const WORKERS: usize = 2;
 const SHOWN: u64 = 5;
 /// The bytes and both prints of a difference are written here.
-const FOLDER: &str = concat!(env!("CARGO_MANIFEST_DIR"), "/target/differences");
+pub const FOLDER: &str = concat!(env!("CARGO_MANIFEST_DIR"), "/target/differences");
 
 /// What jobs a comparison goes through.
 #[derive(Clone, Copy)]

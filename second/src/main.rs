@@ -4,20 +4,34 @@
 //!     second compare PROGRAM [SEED [JOBS]]         runs PROGRAM on many jobs, and compares what it prints
 //!     second spoiled PROGRAM [SEED [JOBS]]         the same, with faults at chosen places of the table
 //!     second job SEED NUMBER >JOB                  writes a job of `compare`
+//!     second calls [SEED [CALLS [FIRST]]]          calls the planner's archive many times, and compares the outcome and both areas
+//!     second workings [SEED [CALLS [FIRST]]]       the same with the archive's workings
 
+mod archive;
 mod big;
+mod call;
+mod calls;
 mod compare;
 mod damaged;
+mod fence;
 mod job;
+mod kinds;
+mod lent;
 mod made;
+mod map;
+mod plain;
 mod plan;
 mod print;
 mod random;
 #[cfg(test)]
 mod search;
+mod sheet;
 mod spoiled;
+mod stop;
+mod tally;
 #[cfg(test)]
 mod tests;
+mod workings;
 
 use std::io::{self, Read, Write};
 use std::process::ExitCode;
@@ -27,7 +41,9 @@ use compare::Kind;
 const USAGE: &str = "usage: second plan <JOB
        second compare PROGRAM [SEED [JOBS]]
        second spoiled PROGRAM [SEED [JOBS]]
-       second job SEED NUMBER >JOB";
+       second job SEED NUMBER >JOB
+       second calls [SEED [CALLS [FIRST]]]
+       second workings [SEED [CALLS [FIRST]]]";
 
 fn main() -> ExitCode {
     let words: Vec<String> = std::env::args().skip(1).collect();
@@ -37,6 +53,8 @@ fn main() -> ExitCode {
         ["compare", program, ref rest @ ..] => compare_with(Kind::Mixed, program, rest),
         ["spoiled", program, ref rest @ ..] => compare_with(Kind::Spoiled, program, rest),
         ["job", seed, number] => write_job(seed, number),
+        ["calls", ref rest @ ..] => sweep(calls::calls, rest),
+        ["workings", ref rest @ ..] => sweep(workings::workings, rest),
         _ => usage(),
     };
     match done {
@@ -73,6 +91,18 @@ fn compare_with(kind: Kind, program: &str, words: &[&str]) -> io::Result<bool> {
 fn write_job(seed: &str, number: &str) -> io::Result<bool> {
     match (seed.parse(), number.parse()) {
         (Ok(seed), Ok(number)) => io::stdout().write_all(&compare::job_bytes(Kind::Mixed, seed, number)).map(|()| true),
+        _ => usage(),
+    }
+}
+
+/// With seed 1 and 100,000 calls from the first, unless the words say otherwise.
+fn sweep(run: fn(u64, u64, u64) -> io::Result<bool>, words: &[&str]) -> io::Result<bool> {
+    let numbers: Result<Vec<u64>, _> = words.iter().map(|word| word.parse()).collect();
+    match numbers.as_deref() {
+        Ok([]) => run(1, 100_000, 0),
+        Ok(&[seed]) => run(seed, 100_000, 0),
+        Ok(&[seed, calls]) => run(seed, calls, 0),
+        Ok(&[seed, calls, first]) => run(seed, calls, first),
         _ => usage(),
     }
 }
