@@ -18,7 +18,7 @@ use Rattle.ints.proofs.Ring.{ring, terms}
 use Rattle.ints.proofs.Linear.{lin, lin₀, _&_, facts}
 use Rattle.ints.proofs.Products.{prod, within-mul}
 use Rattle.ints.proofs.Signed.{signed, bits-equal}
-use Rattle.ints.proofs.Floor.{floor-iff, ceil-iff, floor-iff-neg, ceil-iff-neg, div-mod-unique, floor-within}
+use Rattle.ints.proofs.Floor.{floor-iff, ceil-iff, floor-iff-neg, ceil-iff-neg, floor-by-one, floor-within}
 use Rattle.ints.proofs.Answers.{gives-floor, refuses}
 use Rattle.ints.proofs.Gcd.{gcd}
 use Rattle.ints.proofs.Congruence.{period, class}
@@ -121,10 +121,7 @@ by-zero : (n : ℤ) → division n (pos 0) ≡ refused 9 0
 by-zero n = refuses n (pos 0) (λ h. h .not-zero refl)
 
 by-one : (n : ℤ) → Within limit n → division n (pos 1) ≡ gives n
-by-one n h = gives-floor n (pos 1) record { dividend = h; divisor = record { size = omega arith }; not-zero = lin₀ [] (search facts depth 20) (omega arith) } ∙ ap gives (sym is)
-  where
-    is : n ≡ floorDiv n (pos 1)
-    is = div-mod-unique n (pos 1) n (pos 0) (ltZ-yes tt) (ring (n ∷ []) (search terms depth 20) (search terms depth 20) tt) (leZ-yes tt) (ltZ-yes tt) .0
+by-one n h = gives-floor n (pos 1) record { dividend = h; divisor = record { size = omega arith }; not-zero = lin₀ [] (search facts depth 20) (omega arith) } ∙ ap gives (sym (floor-by-one n))
 
 -- a quotient fits where its dividend does
 quotient-fits : (n d : ℤ) → d ≢ pos 0 → Within limit n → SFits w64 (floorDiv n d -ℤ pos 1)

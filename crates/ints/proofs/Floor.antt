@@ -120,6 +120,13 @@ div-mod-unique-neg n d q r h e a b =
     (lin ρ (e & a) (search facts depth 20) (omega arith)) in
     rest n d q r e (is ∙ sym (floor-turned n d h))
 
+pub floor-by-one : (n : ℤ) → n ≡ floorDiv n (pos 1)
+floor-by-one n =
+    let whole : pos 1 *ℤ n +ℤ pos 0 ≡ n = lin₀ (n ∷ []) (search facts depth 20) (omega arith) in
+    let above : pos 0 <ℤ pos 1 = lin₀ [] (search facts depth 20) (omega arith) in
+    let low : pos 0 ≤ℤ pos 0 = lin₀ [] (search facts depth 20) (omega arith) in
+    div-mod-unique n (pos 1) n (pos 0) above whole low above .0
+
 -- ---- in the dividend the quotient rises, or falls for a negative divisor
 pub floor-mono : (n m d : ℤ) → pos 0 <ℤ d → n ≤ℤ m → floorDiv n d ≤ℤ floorDiv m d
 floor-mono n m d h l = floor-iff m d (floorDiv n d) h .0 (le-trans (d *ℤ floorDiv n d) n m (floor-range n d h .0) l)
