@@ -3,7 +3,7 @@ use mathlib.Core.Path.{_≡_, refl, _∙_}
 use mathlib.Core.List.{List}
 use Prim.Native.Nat.{ℕ, _+_, _≤_, _<_}
 use native.Mathlib.Omega.{arith}
-use native.Mathlib.Decide.{ℕ-discrete}
+use native.Mathlib.Decide.{ℕ-discrete, decLt}
 use lib.ListN.{length, getD, set, length-set}
 use lib.Seq.{getD-set-same, getD-set-other}
 
@@ -52,3 +52,11 @@ module _ {A : Type 0} {size : ℕ} (d : A) (f : ℕ → A) (old : List A) where
       behind = record { long = p .behind .long; done = next d f i xs (p .ahead i (omega arith) ∙ e) (p .behind .done) };
       ahead = λ k h. p .ahead k (omega arith);
     }
+
+    -- places that have what is wanted already
+    pub leap : (j : ℕ) → i ≤ j → ((k : ℕ) → i ≤ k → k < j → getD old k d ≡ f k) → Passed size d f old j xs
+    leap j l e = record { behind = record { long = p .behind .long; done = λ k h. go k h (decLt k i) }; ahead = λ k h. p .ahead k (omega arith) }
+      where
+        go : (k : ℕ) → k < j → Dec (k < i) → getD xs k d ≡ f k
+        go k h (yes b) = p .behind .done k b
+        go k h (no a) = p .ahead k (omega (arith, a)) ∙ e k (omega (arith, a)) h

@@ -14,7 +14,7 @@ use Rattle.jobs.specs.declared.Equation.{Equation}
 use Rattle.jobs.specs.Job.{Job, form, variable, equation}
 use Rattle.jobs.specs.Component.{merged, lowestBy, lowest}
 use Rattle.jobs.specs.Lawful.{LawfulJob, LawfulEquation}
-use Rattle.jobs.proofs.Components.{lowestBy-le}
+use Rattle.jobs.proofs.Components.{lowestBy-le, lowestBy-self}
 use Rattle.families.specs.Model.{State, labelAt, runAt, Indices as Pair, interval, startState, runAfter, kept, change, next, stateAfter, stateAfterAll}
 use Rattle.jobs.specs.Family.{familyRun}
 use Rattle.families.proofs.StartState.{began-is, label-at, run-at}
@@ -23,6 +23,7 @@ use Rattle.families.proofs.Labels.{next-label}
 use Rattle.families.proofs.ModelIsExact.{exact}
 use Rattle.solver.specs.declared.join.Indices.{Indices}
 use Rattle.solver.specs.Labels.{Labelled, Merges, Labels, Apart}
+use Rattle.solver.specs.Rows.{Leads}
 use Rattle.solver.specs.Steps.{indicesBy, Reducible, Reduces}
 use Rattle.solver.proofs.MergedLabels.{merged-same}
 
@@ -190,6 +191,12 @@ labels-start j n labels h a = record { at = λ i b. a .at i (omega arith) }
 module _ (j : Job) (k : ℕ) (labels : List ℕ) (n : ℕ) (a : Labels j k n labels) where
   pub labels-le : Labelled labels n
   labels-le = record { at = λ i h. omega (arith, a .at i h, lowestBy-le j k i) }
+
+  -- the label of a variable is the lowest of its component
+  pub labels-lead : (i : ℕ) → i < n → Leads labels n (getD labels i 0)
+  labels-lead i h =
+      let below : getD labels i 0 < n = omega (arith, labels-le .at i h, h) in
+      record { below = below; self = a .at (getD labels i 0) below ∙ ap (lowestBy j k) (a .at i h) ∙ lowestBy-self j k i ∙ sym (a .at i h) }
 
   -- one equation more, whose row is e
   module _ (e : Equation) (is : e ≡ equation j k) (left : e .left < n) (right : e .right < n) where

@@ -1,6 +1,6 @@
 -- The test whether an equation joins two sets that earlier rows left separate.
 use mathlib.Core.Path.{_≡_, refl, sym, _∙_}
-use mathlib.Core.Logic.{_↔_}
+use mathlib.Core.Logic.{_↔_, _≢_}
 use mathlib.Core.Bool.{Bool, true, false, not}
 use mathlib.Core.List.{List}
 use Prim.Native.Nat.{ℕ, _<_}
@@ -22,6 +22,9 @@ together-told false e = sym e
 
 pub same-label : (l r : ℕ) {b : Bool} → b ≡ not (eqb l r) → b ≡ false → l ≡ r
 same-label l r e f = eqb-true l r (together-told (eqb l r) (sym e ∙ f))
+
+pub other-label : (l r : ℕ) {b : Bool} → b ≡ not (eqb l r) → b ≡ true → l ≢ r
+other-label l r e t = eqb-false l r (apart-told (eqb l r) (sym e ∙ t))
 
 -- on the labels that the earlier equations leave, it tells whether an equation joins
 pub joins-told : (j : Job) (k n : ℕ) (labels : List ℕ) → Labels j k n labels → equation j k .left < n → equation j k .right < n →

@@ -8,6 +8,8 @@ pub mod Families
 pub mod VariableArrays
 -- components as a list of labels
 pub mod Labels
+-- the variables of each component in a row
+pub mod Rows
 -- what is promised of the pass over the equations: all that the map shows
 pub mod Structured
 -- what the program's enums and structs of one step say
