@@ -1,10 +1,18 @@
 -- The program's arrays follow the model, equation by equation.
 use mathlib.Core.Path.{_≡_, refl, sym, _∙_, ap, ap₂, subst}
-use mathlib.Core.Option.{Option, none, some}
+use mathlib.Core.Logic.{inl}
+use mathlib.Core.Bool.{cond}
+use mathlib.Core.Option.{Option, none, some, Option·none-ne-some}
 use mathlib.Core.List.{List}
-use Prim.Native.Nat.{ℕ, suc, _≤_, _<_}
+use Prim.Native.Nat.{ℕ, suc, _≤_, _<_, min}
 use native.Mathlib.Omega.{arith}
-use lib.ListN.{length, getD}
+use native.Mathlib.Decide.{ℕ-discrete}
+use lib.Dec.{ltb}
+use lib.IntN.{ℤ}
+use lib.ListN.{length, getD, set}
+use lib.Seq.{getD-set-same, getD-set-other}
+use borrow.Author.Tests.{eq-eqb, ne-eqb}
+use Rattle.runs.specs.declared.Equation.{Equation as Form}
 use Rattle.runs.specs.declared.Run.{Run}
 use Rattle.runs.specs.Run.{empty, full}
 use Rattle.runs.specs.Search.{meet}
@@ -14,23 +22,28 @@ use Rattle.jobs.specs.declared.Equation.{Equation}
 use Rattle.jobs.specs.Job.{Job, form, variable, equation}
 use Rattle.jobs.specs.Component.{merged, lowestBy, lowest}
 use Rattle.jobs.specs.Lawful.{LawfulJob, LawfulEquation}
-use Rattle.jobs.proofs.Components.{lowestBy-le, lowestBy-self}
-use Rattle.families.specs.Model.{State, labelAt, runAt, Indices as Pair, interval, startState, runAfter, kept, change, next, stateAfter, stateAfterAll}
+use Rattle.jobs.proofs.Components.{Merged, first, second, other, merged-cases, merged-one, lowestBy-le, lowestBy-self}
+use Rattle.families.specs.Model.{State, labelAt, runAt, Indices as Pair, interval, startState, through, bothSides, cycle, join, commonNumbers, runAfter, kept, change, next, stateAfter, stateAfterAll}
 use Rattle.jobs.specs.Family.{familyRun}
 use Rattle.families.proofs.StartState.{began-is, label-at, run-at}
 use Rattle.families.proofs.InvariantHolds.{Reached, reached, invariant, change-none, label-after, run-after}
 use Rattle.families.proofs.Labels.{next-label}
+use Rattle.families.proofs.Subfamily.{after-left, after-right, after-other}
 use Rattle.families.proofs.ModelIsExact.{exact}
 use Rattle.solver.specs.declared.join.Indices.{Indices}
 use Rattle.solver.specs.Labels.{Labelled, Merges, Labels, Apart}
 use Rattle.solver.specs.Rows.{Leads}
-use Rattle.solver.specs.Steps.{indicesBy, Reducible, Reduces}
-use Rattle.solver.proofs.MergedLabels.{merged-same}
+use Rattle.solver.specs.Fields.{runOf, gathered, Spreads}
+use Rattle.solver.specs.Steps.{indicesBy, Reducible, BothReducible, BothReduce}
 
 -- the arrays have at each variable what the model has after k equations
-pub record Follows (j : Job) (k : ℕ) (labels : List ℕ) (runs : List Run) : Type 0 where
+pub record Follows (j : Job) (k : ℕ) (labels : List ℕ) (firsts steps : List ℤ) (manys : List ℕ) : Type 0 where
   pub label : (i : ℕ) → i < length (j .variables) → getD labels i 0 ≡ labelAt (stateAfter j k) i
-  pub run : (i : ℕ) → i < length (j .variables) → getD runs i empty ≡ runAt (stateAfter j k) i
+  pub run : (i : ℕ) → i < length (j .variables) → gathered labels firsts steps manys i ≡ runAt (stateAfter j k) i
+
+-- a run by its fields
+same-run : {r r′ : Run} → r .first ≡ r′ .first → r .step ≡ r′ .step → r .many ≡ r′ .many → r ≡ r′
+same-run p q m = λ t. record { first = p t; step = q t; many = m t }
 
 -- ---- before any equation
 module _ (j : Job) (f : LawfulJob j) where
@@ -46,9 +59,13 @@ module _ (j : Job) (f : LawfulJob j) where
       let v = f .each-variable i h in
       ap (λ s. runAt s i) begins-start ∙ run-at j i h ∙ began-is (variable j i .low) (variable j i .high) (v .low) (v .high)
 
-  pub follows-start : (labels : List ℕ) (runs : List Run) → ((i : ℕ) → i < length (j .variables) → getD labels i 0 ≡ i) →
-      ((i : ℕ) → i < length (j .variables) → getD runs i empty ≡ meet full (interval (variable j i .low) (variable j i .high))) → Follows j 0 labels runs
-  follows-start labels runs g r = record { label = λ i h. g i h ∙ sym (start-label i h); run = λ i h. r i h ∙ sym (start-run i h) }
+  pub follows-start : (labels : List ℕ) (runs : List Run) (firsts steps : List ℤ) (manys : List ℕ) → ((i : ℕ) → i < length (j .variables) → getD labels i 0 ≡ i) →
+      ((i : ℕ) → i < length (j .variables) → getD runs i empty ≡ meet full (interval (variable j i .low) (variable j i .high))) →
+      Spreads runs (length (j .variables)) firsts steps manys → Follows j 0 labels firsts steps manys
+  follows-start labels runs firsts steps manys g r p = record {
+    label = λ i h. g i h ∙ sym (start-label i h);
+    run = λ i h. same-run (p .first .at i h) (p .step .at i h) (ap (λ l. getD manys l 0) (g i h) ∙ p .many .at i h) ∙ r i h ∙ sym (start-run i h);
+  }
 
 -- ---- the model's step
 next-by : (j : Job) (k : ℕ) → stateAfter j (suc k) ≡ next (equation j k) (stateAfter j k)
@@ -64,16 +81,56 @@ same-change : (e : Equation) (s : State) {l l′ r r′ : ℕ} {P P′ Q Q′ : 
     change l r (kept (form e) l r P Q) s ≡ change l′ r′ (kept (form e) l′ r′ P′ Q′) s
 same-change e s a b c d = sym (λ t. change (a t) (b t) (kept (form e) (a t) (b t) (c t) (d t)) s)
 
+-- ---- parts of a run
+through-many : (r s : Run) → through r s .many ≡ s .many
+through-many r s = go (ℕ-discrete (s .many) 0)
+  where
+    go : Dec (s .many ≡ 0) → through r s .many ≡ s .many
+    go (yes e) = rw (eq-eqb (s .many) 0 e) (sym e)
+    go (no d) = rw (ne-eqb (s .many) 0 d) refl
+
+-- how many a run has makes no difference to the numbers of its part
+module _ (l r : ℕ) (i : Pair) (firsts steps : List ℤ) (g many v : ℕ) where
+  abbrev plain : Run
+  plain = runOf firsts steps 0 v
+
+  abbrev full-run : Run
+  full-run = runOf firsts steps many v
+
+  after-numbers : Dec (g ≡ l) → Dec (g ≡ r) →
+      (runAfter l r i g plain .first ≡ runAfter l r i g full-run .first) × (runAfter l r i g plain .step ≡ runAfter l r i g full-run .step)
+  after-numbers (yes e) d =
+      (ap (λ r. r .first) (after-left l r i g plain e) ∙ sym (ap (λ r. r .first) (after-left l r i g full-run e)), ap (λ r. r .step) (after-left l r i g plain e) ∙ sym (ap (λ r. r .step) (after-left l r i g full-run e)))
+  after-numbers (no p) (yes e) =
+      (ap (λ r. r .first) (after-right l r i g plain p e) ∙ sym (ap (λ r. r .first) (after-right l r i g full-run p e)), ap (λ r. r .step) (after-right l r i g plain p e) ∙ sym (ap (λ r. r .step) (after-right l r i g full-run p e)))
+  after-numbers (no p) (no q) =
+      (ap (λ r. r .first) (after-other l r i g plain p q) ∙ sym (ap (λ r. r .first) (after-other l r i g full-run p q)), ap (λ r. r .step) (after-other l r i g plain p q) ∙ sym (ap (λ r. r .step) (after-other l r i g full-run p q)))
+
+  after-first : runAfter l r i g (runOf firsts steps 0 v) .first ≡ runAfter l r i g (runOf firsts steps many v) .first
+  after-first = after-numbers (ℕ-discrete g l) (ℕ-discrete g r) .0
+
+  after-step : runAfter l r i g (runOf firsts steps 0 v) .step ≡ runAfter l r i g (runOf firsts steps many v) .step
+  after-step = after-numbers (ℕ-discrete g l) (ℕ-discrete g r) .1
+
+-- inside one component the same indices stay on both sides
+ring-sides : (f : Form) (l r : ℕ) (P Q : Run) (i : Pair) → l ≡ r → some i ≡ kept f l r P Q → i .left ≡ i .right
+unfolding kept
+ring-sides f l r P Q i z h = go (cycle f P Q) (h ∙ ap (λ b. cond b (bothSides (cycle f P Q)) (some (join f P Q (commonNumbers f P Q) (ltb l r)))) (eq-eqb l r z))
+  where
+    go : (o : Option Run) → some i ≡ bothSides o → i .left ≡ i .right
+    go none e = absurd (Option·none-ne-some i (sym e))
+    go (some s) e = cc
+
 -- ---- one equation more
 -- what is known at equation k of a lawful job with n variables, whose row is e
-pub record At (j : Job) (n k : ℕ) (labels : List ℕ) (runs : List Run) (e : Equation) : Type 0 where
+pub record At (j : Job) (n k : ℕ) (labels : List ℕ) (firsts steps : List ℤ) (manys : List ℕ) (e : Equation) : Type 0 where
   pub lawful : LawfulJob j
   pub all : length (j .variables) ≡ n
   pub below : k < length (j .equations)
-  pub follows : Follows j k labels runs
+  pub follows : Follows j k labels firsts steps manys
   pub row : e ≡ equation j k
 
-module _ {j : Job} {n k : ℕ} {labels : List ℕ} {runs : List Run} {e : Equation} (a : At j n k labels runs e) where
+module _ {j : Job} {n k : ℕ} {labels : List ℕ} {firsts steps : List ℤ} {manys : List ℕ} {e : Equation} (a : At j n k labels firsts steps manys e) where
   abbrev S : State
   S = stateAfter j k
 
@@ -83,11 +140,14 @@ module _ {j : Job} {n k : ℕ} {labels : List ℕ} {runs : List Run} {e : Equati
   abbrev r : ℕ
   r = getD labels (e .right) 0
 
+  abbrev seen : ℕ → Run
+  seen = gathered labels firsts steps manys
+
   abbrev P : Run
-  P = getD runs (e .left) empty
+  P = seen (e .left)
 
   abbrev Q : Run
-  Q = getD runs (e .right) empty
+  Q = seen (e .right)
 
   known : Reached j k S
   known = let b = a .below in reached j (a .lawful) k (omega arith)
@@ -98,7 +158,7 @@ module _ {j : Job} {n k : ℕ} {labels : List ℕ} {runs : List Run} {e : Equati
   label-is : (i : ℕ) → i < n → getD labels i 0 ≡ labelAt S i
   label-is i h = a .follows .label i (within h)
 
-  run-is : (i : ℕ) → i < n → getD runs i empty ≡ runAt S i
+  run-is : (i : ℕ) → i < n → seen i ≡ runAt S i
   run-is i h = a .follows .run i (within h)
 
   equation-lawful : LawfulEquation n e
@@ -113,13 +173,13 @@ module _ {j : Job} {n k : ℕ} {labels : List ℕ} {runs : List Run} {e : Equati
   pub limits : CarryLimits (form e)
   limits = equation-lawful .coefficients
 
-  family : (i : ℕ) → i < n → FamilyRun (getD runs i empty)
+  family : (i : ℕ) → i < n → FamilyRun (seen i)
   family i h = subst FamilyRun (sym (run-is i h)) (known .invariant .form i (within h))
 
-  pub left-family : FamilyRun (getD runs (e .left) empty)
+  pub left-family : FamilyRun (gathered labels firsts steps manys (e .left))
   left-family = family (e .left) left-below
 
-  pub right-family : FamilyRun (getD runs (e .right) empty)
+  pub right-family : FamilyRun (gathered labels firsts steps manys (e .right))
   right-family = family (e .right) right-below
 
   -- labels are not above their variables
@@ -129,11 +189,18 @@ module _ {j : Job} {n k : ℕ} {labels : List ℕ} {runs : List Run} {e : Equati
   pub labelled : Labelled labels n
   labelled = record { at = label-le }
 
-  pub left-label : getD labels (e .left) 0 < n
-  left-label = omega (arith, label-le (e .left) left-below, left-below)
+  -- and lead their components
+  leads : (i : ℕ) → i < n → Leads labels n (getD labels i 0)
+  leads i h =
+      let below : getD labels i 0 < n = omega (arith, label-le i h, h) in
+      let of : (i : ℕ) → i < n → getD labels i 0 ≡ lowestBy j k i = λ i h. label-is i h ∙ known .invariant .labels i (within h) in
+      record { below = below; self = of (getD labels i 0) below ∙ ap (lowestBy j k) (of i h) ∙ lowestBy-self j k i ∙ sym (of i h) }
 
-  pub right-label : getD labels (e .right) 0 < n
-  right-label = omega (arith, label-le (e .right) right-below, right-below)
+  pub left-leads : Leads labels n (getD labels (e .left) 0)
+  left-leads = leads (e .left) left-below
+
+  pub right-leads : Leads labels n (getD labels (e .right) 0)
+  right-leads = leads (e .right) right-below
 
   -- what the model keeps here, and the step that it takes
   abbrev pub keeps : Option Pair
@@ -145,7 +212,7 @@ module _ {j : Job} {n k : ℕ} {labels : List ℕ} {runs : List Run} {e : Equati
       ∙ same-change e S (label-is (e .left) left-below) (label-is (e .right) right-below) (run-is (e .left) left-below) (run-is (e .right) right-below)
       ∙ ap (λ x. change l r x S) (sym h)
 
-  pub follows-same : none ≡ keeps → Follows j (suc k) labels runs
+  pub follows-same : none ≡ keeps → Follows j (suc k) labels firsts steps manys
   follows-same h =
       let same : stateAfter j (suc k) ≡ S = next-is none h ∙ change-none l r S in
       record { label = λ i b. a .follows .label i b ∙ ap (λ s. labelAt s i) (sym same); run = λ i b. a .follows .run i b ∙ ap (λ s. runAt s i) (sym same) }
@@ -153,7 +220,7 @@ module _ {j : Job} {n k : ℕ} {labels : List ℕ} {runs : List Run} {e : Equati
   -- with the indices that it keeps
   module _ (i : Indices) (h : some (indicesBy i) ≡ keeps) where
     abbrev after : ℕ → Run
-    after v = runAfter l r (indicesBy i) (getD labels v 0) (getD runs v empty)
+    after v = runAfter l r (indicesBy i) (getD labels v 0) (seen v)
 
     model : stateAfter j (suc k) ≡ change l r (some (indicesBy i)) S
     model = next-is (some (indicesBy i)) h
@@ -167,21 +234,80 @@ module _ {j : Job} {n k : ℕ} {labels : List ℕ} {runs : List Run} {e : Equati
     model-label v b =
         ap (λ s. labelAt s v) model ∙ label-after l r S (indicesBy i) v (omega (arith, b, a .all, known .sized .labels)) ∙ ap (merged l r) (sym (label-is v b))
 
-    pub reducible : Reducible runs labels (getD labels (e .left) 0) (getD labels (e .right) 0) i n
-    reducible = record { before = family; after = λ v b. subst FamilyRun (model-run v b) (invariant j (a .lawful) (suc k) (a .below) .form v (within b)) }
+    -- the family afterwards
+    new-family : (v : ℕ) → v < n → FamilyRun (after v)
+    new-family v b = subst FamilyRun (model-run v b) (invariant j (a .lawful) (suc k) (a .below) .form v (within b))
 
-    pub follows-reduced : (labels′ : List ℕ) (runs′ : List Run) → Merges labels (getD labels (e .left) 0) (getD labels (e .right) 0) n labels′ →
-        Reduces runs labels (getD labels (e .left) 0) (getD labels (e .right) 0) i n runs′ → Follows j (suc k) labels′ runs′
-    follows-reduced labels′ runs′ m q = record {
-      label = λ v b. let c : v < n = omega (arith, b, a .all) in m .at v c ∙ sym (model-label v c);
-      run = λ v b. let c : v < n = omega (arith, b, a .all) in q .at v c ∙ sym (model-run v c);
+    -- one side of it
+    side : (g x : ℕ) (s : Run) → x ≡ getD manys g 0 → ((v : ℕ) → getD labels v 0 ≡ g → after v ≡ through (seen v) s) → Reducible labels firsts steps g s x n
+    side g x s m f = record {
+      before = λ v b e. subst FamilyRun (counted v e) (family v b);
+      after = λ v b e. subst FamilyRun (f v e ∙ ap (λ r. through r s) (counted v e)) (new-family v b);
     }
+      where
+        counted : (v : ℕ) → getD labels v 0 ≡ g → seen v ≡ runOf firsts steps x v
+        counted v e = ap (λ many. runOf firsts steps many v) (ap (λ g. getD manys g 0) e ∙ sym m)
+
+    pub reducible : BothReducible labels firsts steps (getD labels (e .left) 0) (getD labels (e .right) 0) i (getD manys (getD labels (e .left) 0) 0) (getD manys (getD labels (e .right) 0) 0) n
+    reducible = record {
+      left = side l (getD manys l 0) (i .left) refl (λ v h. after-left l r (indicesBy i) (getD labels v 0) (seen v) h);
+      right = side r (getD manys r 0) (i .right) refl (λ v h. at-right v h (ℕ-discrete l r));
+    }
+      where
+        one-side : l ≡ r → i .left ≡ i .right
+        one-side z = ring-sides (form e) l r P Q (indicesBy i) z h
+
+        at-right : (v : ℕ) → getD labels v 0 ≡ r → Dec (l ≡ r) → after v ≡ through (seen v) (i .right)
+        at-right v h (yes z) = after-left l r (indicesBy i) (getD labels v 0) (seen v) (h ∙ sym z) ∙ ap (through (seen v)) (one-side z)
+        at-right v h (no z) = after-right l r (indicesBy i) (getD labels v 0) (seen v) (λ q. z (sym q ∙ h)) h
+
+    -- how many there are then
+    module _ (labels′ : List ℕ) (m : Merges labels (getD labels (e .left) 0) (getD labels (e .right) 0) n labels′) where
+      new-label : (v : ℕ) → v < n → getD labels′ v 0 ≡ lowestBy j (suc k) v
+      new-label v b = m .at v b ∙ sym (model-label v b) ∙ invariant j (a .lawful) (suc k) (a .below) .labels v (within b)
+
+      many-of : (v : ℕ) → v < n → getD labels′ v 0 ≡ min l r → runAt (stateAfter j (suc k)) v .many ≡ i .left .many
+      many-of v b z =
+          let inv = invariant j (a .lawful) (suc k) (a .below) in
+          let left-new : getD labels′ (e .left) 0 ≡ min l r = m .at (e .left) left-below ∙ merged-one l r l (inl refl) in
+          let same : lowestBy j (suc k) v ≡ lowestBy j (suc k) (e .left) = sym (new-label v b) ∙ z ∙ sym left-new ∙ new-label (e .left) left-below in
+          inv .many v (within b) ∙ ap (λ g. runAt (stateAfter j (suc k)) g .many) same ∙ sym (inv .many (e .left) (within left-below))
+          ∙ ap (λ r. r .many) (model-run (e .left) left-below ∙ after-left l r (indicesBy i) l P refl) ∙ through-many P (i .left)
+
+      pub follows-reduced : (firsts′ steps′ : List ℤ) (low : ℕ) → BothReduce labels firsts steps (getD labels (e .left) 0) (getD labels (e .right) 0) i n firsts′ steps′ →
+          low ≡ min (getD labels (e .left) 0) (getD labels (e .right) 0) → length manys ≡ 256 → n ≤ 256 →
+          Follows j (suc k) labels′ firsts′ steps′ (set manys low (i .left .many))
+      follows-reduced firsts′ steps′ low q low-is wide small = record {
+        label = λ v b. let c : v < n = omega (arith, b, a .all) in m .at v c ∙ sym (model-label v c);
+        run = λ v b. let c : v < n = omega (arith, b, a .all) in
+            same-run
+            (q .first .at v c ∙ after-first l r (indicesBy i) firsts steps (getD labels v 0) (getD manys (getD labels v 0) 0) v ∙ sym (ap (λ r. r .first) (model-run v c)))
+            (q .step .at v c ∙ after-step l r (indicesBy i) firsts steps (getD labels v 0) (getD manys (getD labels v 0) 0) v ∙ sym (ap (λ r. r .step) (model-run v c)))
+            (many v c (merged-cases l r (getD labels v 0)));
+      }
+        where
+          manys′ : List ℕ
+          manys′ = set manys low (i .left .many)
+
+          at-low : (v : ℕ) → v < n → merged l r (getD labels v 0) ≡ min l r → getD manys′ (getD labels′ v 0) 0 ≡ runAt (stateAfter j (suc k)) v .many
+          at-low v c z =
+              ap (λ g. getD manys′ g 0) (m .at v c ∙ z ∙ sym low-is)
+              ∙ getD-set-same manys low (i .left .many) 0 (omega (arith, low-is, left-leads .below, small, wide))
+              ∙ sym (many-of v c (m .at v c ∙ z))
+
+          many : (v : ℕ) → v < n → Merged l r (getD labels v 0) → getD manys′ (getD labels′ v 0) 0 ≡ runAt (stateAfter j (suc k)) v .many
+          many v c (first x z) = at-low v c z
+          many v c (second x z) = at-low v c z
+          many v c (other x y z) =
+              ap (λ g. getD manys′ g 0) (m .at v c ∙ z)
+              ∙ getD-set-other manys low (getD labels v 0) (i .left .many) 0 (λ w. omega (arith, w, low-is, x, y))
+              ∙ sym (ap (λ r. r .many) (model-run v c ∙ after-other l r (indicesBy i) (getD labels v 0) (seen v) x y))
 
 -- ---- after all of them
-pub follows-end : (j : Job) → LawfulJob j → (labels : List ℕ) (runs : List Run) → Follows j (length (j .equations)) labels runs → (i : ℕ) → i < length (j .variables) →
-    (getD labels i 0 ≡ lowest j i) × (getD runs i empty ≡ familyRun j i)
+pub follows-end : (j : Job) → LawfulJob j → (labels : List ℕ) (firsts steps : List ℤ) (manys : List ℕ) → Follows j (length (j .equations)) labels firsts steps manys → (i : ℕ) → i < length (j .variables) →
+    (getD labels i 0 ≡ lowest j i) × (gathered labels firsts steps manys i ≡ familyRun j i)
 unfolding stateAfterAll
-follows-end j f labels runs o i h = let (g, r) = exact j f i h in (o .label i h ∙ g, o .run i h ∙ r)
+follows-end j f labels firsts steps manys o i h = let (g, r) = exact j f i h in (o .label i h ∙ g, o .run i h ∙ r)
 
 -- ---- the labels alone
 pub labels-start : (j : Job) (n : ℕ) (labels : List ℕ) → n ≤ 256 → Apart labels → Labels j 0 n labels
@@ -205,6 +331,3 @@ module _ (j : Job) (k : ℕ) (labels : List ℕ) (n : ℕ) (a : Labels j k n lab
 
     pub labels-joined : (after : List ℕ) → Merges labels (getD labels (e .left) 0) (getD labels (e .right) 0) n after → Labels j (suc k) n after
     labels-joined after m = record { at = λ i h. m .at i h ∙ sym (next-at i h) }
-
-    pub labels-same : getD labels (e .left) 0 ≡ getD labels (e .right) 0 → Labels j (suc k) n labels
-    labels-same q = record { at = λ i h. sym (next-at i h ∙ merged-same (getD labels (e .left) 0) (getD labels (e .right) 0) (getD labels i 0) q) }

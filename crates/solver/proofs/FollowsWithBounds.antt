@@ -4,6 +4,8 @@ use mathlib.Core.List.{List}
 use Prim.Native.Nat.{ℕ, _<_}
 use native.Mathlib.Omega.{arith}
 use lib.ListN.{length, getD}
+use lib.IntN.{ℤ}
+use Rattle.lists.specs.Table.{Tabulates}
 use Rattle.runs.specs.declared.Run.{Run}
 use Rattle.runs.specs.Run.{empty, full}
 use Rattle.runs.specs.Search.{meet}
@@ -18,6 +20,7 @@ use Rattle.jobs.proofs.JobOf.{variables-of, equations-of}
 use Rattle.jobs.proofs.WithBounds.{same-length, same-equations, variable-with, lawful-with}
 use Rattle.families.specs.Model.{interval}
 use Rattle.solver.specs.Families.{Families}
+use Rattle.solver.specs.Fields.{gathered, Spreads}
 use Rattle.solver.specs.VariableArrays.{Begins}
 use Rattle.solver.specs.Labels.{Apart}
 use Rattle.solver.proofs.LawfulRows.{Sizes, n-most}
@@ -40,23 +43,24 @@ module _ {s : List ℕ} {n m : ℕ} (z : Sizes s n m) (b : List Bounds) (o : Bou
   lawful = lawful-with (jobOf s) b (z .0 .job) (subst (BoundedBy b) (sym vars) o)
 
   -- before any equation
-  pub follows-start : (labels : List ℕ) (runs : List Run) → Apart labels → Begins b n runs → Follows job 0 labels runs
-  follows-start labels runs a e =
-      begins job lawful labels runs
-      (λ i h. a .at i (omega (arith, n-is, n-most z))) (λ i h. at i (omega (arith, n-is)))
+  pub follows-start : (labels : List ℕ) (runs : List Run) (firsts steps : List ℤ) (manys : List ℕ) → Apart labels → Begins b n runs → Spreads runs n firsts steps manys → Follows job 0 labels firsts steps manys
+  follows-start labels runs firsts steps manys a e p =
+      begins job lawful labels runs firsts steps manys
+      (λ i h. a .at i (omega (arith, n-is, n-most z))) (λ i h. at i (omega (arith, n-is))) (subst (λ n. Spreads runs n firsts steps manys) (sym n-is) p)
     where
       at : (i : ℕ) → i < n → getD runs i empty ≡ meet full (interval (variable job i .low) (variable job i .high))
       at i h = e .at i h ∙ rw (variable-with (jobOf s) b i (omega (arith, vars))) refl
 
   -- after all of them
-  pub follows-end : (labels : List ℕ) (runs : List Run) → Follows job m labels runs → Families job (record { labels = labels; runs = runs })
-  follows-end labels runs f = record { label = λ i h. at i h .0; run = λ i h. at i h .1 }
+  pub follows-end : (labels : List ℕ) (firsts steps : List ℤ) (manys : List ℕ) (runs : List Run) → Follows job m labels firsts steps manys →
+      Tabulates empty (gathered labels firsts steps manys) n runs → Families job (record { labels = labels; runs = runs })
+  follows-end labels firsts steps manys runs f t = record { label = λ i h. at i h .0; run = λ i h. t .at i (omega (arith, h, n-is)) ∙ at i h .1 }
     where
-      at : (i : ℕ) → i < length (job .variables) → (getD labels i 0 ≡ lowest job i) × (getD runs i empty ≡ familyRun job i)
-      at = ends job lawful labels runs (subst (λ m. Follows job m labels runs) (sym m-is) f)
+      at : (i : ℕ) → i < length (job .variables) → (getD labels i 0 ≡ lowest job i) × (gathered labels firsts steps manys i ≡ familyRun job i)
+      at = ends job lawful labels firsts steps manys (subst (λ m. Follows job m labels firsts steps manys) (sym m-is) f)
 
   -- at one of them
-  pub at-row : {k : ℕ} {labels : List ℕ} {runs : List Run} {e : Equation} → k < m → Follows job k labels runs → e ≡ equation (jobOf s) k → At job n k labels runs e
+  pub at-row : {k : ℕ} {labels : List ℕ} {firsts steps : List ℤ} {manys : List ℕ} {e : Equation} → k < m → Follows job k labels firsts steps manys → e ≡ equation (jobOf s) k → At job n k labels firsts steps manys e
   at-row {k} h f r = record {
     lawful = lawful;
     all = n-is;

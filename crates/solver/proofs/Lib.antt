@@ -12,6 +12,8 @@ pub mod LowestVariables
 pub mod In64Bits
 -- how large the numbers are through which an equation between two families goes
 pub mod JoinWidths
+-- what stays of the runs of one component, and of two
+pub mod ReducedRuns
 -- the arrays follow the model, equation by equation (`Follows`, `follows-reduced`), to the families (`follows-end`)
 pub mod CodeFollowsModel
 -- with the bounds in its rows a job is the job itself: `own-bounds`

@@ -12,6 +12,8 @@ pub mod Labels
 pub mod Rows
 -- what is promised of the pass over the equations: all that the map shows
 pub mod Structured
+-- the runs of all variables field by field
+pub mod Fields
 -- what the program's enums and structs of one step say
 pub mod Steps
 -- how large the numbers are

@@ -118,41 +118,6 @@ fn merge(labels: &mut [u16], nexts: &mut [u16], from: usize, low: u16, high: usi
     }
 }
 
-// The components l and r as one, for n variables.
-pub(crate) fn joined(labels: [u16; 256], l: u16, r: u16, n: usize) -> [u16; 256]
-    requires { ⌜ n ≤ 256 ⌝ }
-    requires { ⌜ l < n ⌝ }
-    requires { ⌜ r < n ⌝ }
-    requires { ⌜ Labelled labels n ⌝ }
-    ensures { λ q. ⌜ Merges labels l r n q ⌝ }
-{
-    if l < r {
-        renamed(labels, r, l, n)
-    } else {
-        renamed(labels, l, r, n)
-    }
-}
-
-// Those labelled with the higher take the lower. No variable before `high` has that label.
-fn renamed(labels: [u16; 256], high: u16, low: u16, n: usize) -> [u16; 256]
-    requires { ⌜ n ≤ 256 ⌝ }
-    requires { ⌜ low ≤ high ⌝ }
-    requires { ⌜ high < n ⌝ }
-    requires { ⌜ Labelled labels n ⌝ }
-    ensures { λ q. ⌜ Merges labels low high n q ⌝ }
-{
-    let mut out = labels;
-    let first = high as usize;
-    let mut i: usize = first;
-    while i < n {
-        if labels[i] == high {
-            out[i] = low;
-        }
-        i += 1;
-    }
-    out
-}
-
 /// How many components n variables are in: 01's g.
 pub fn count(labels: [u16; 256], n: usize) -> usize
     requires { ⌜ n ≤ 256 ⌝ }

@@ -1,24 +1,23 @@
 //! The equations, one after the other: what each leaves of the families.
 
 ghost use mathlib.Core.Path.{_≡_};
-ghost use Prim.Native.Nat.{_≤_, _<_};
 ghost use Rattle.runs.specs.Workings.{CarryLimits};
 ghost use Rattle.families.specs.FamilyRun.{FamilyRun};
 ghost use Rattle.jobs.specs.Job.{jobOf, variableCount, equationCount};
 ghost use Rattle.jobs.specs.Lawful.{Lawful};
-ghost use Rattle.families.specs.Model.{kept, runAfter};
+ghost use Rattle.families.specs.Model.{kept};
 ghost use Rattle.solver.specs.Families.{Families};
 ghost use Rattle.jobs.specs.Bounds.{withBounds, BoundedBy};
-ghost use Rattle.solver.specs.Labels.{Labelled};
-ghost use Rattle.solver.specs.Steps.{keptBy, indicesBy, Reducible, Reduces};
+ghost use Rattle.solver.specs.Steps.{keptBy};
 use crate::State;
 use crate::components;
 use crate::cycle;
 use crate::cycle::Remains;
+use crate::fields;
 use crate::join;
 use crate::join::Indices;
-use crate::parts;
 use crate::range;
+use crate::reduce;
 use jobs::Bounds;
 use jobs::Equation;
 use runs::Run;
@@ -38,7 +37,13 @@ pub fn families(job: &[u8], bounds: [Bounds; 256], n: usize, m: usize) -> State
     ensures { λ r. ⌜ Families (withBounds (jobOf (now (job .entry))) bounds) r ⌝ }
 {
     let mut labels = components::apart();
-    let mut runs = range::start(bounds, n);
+    let mut nexts: [u16; 256] = [n as u16; 256];
+    let mut lasts = components::apart();
+    let runs = range::start(bounds, n);
+    let mut firsts: [i64; 256] = [0; 256];
+    let mut steps: [i64; 256] = [0; 256];
+    let mut manys: [u32; 256] = [0; 256];
+    fields::spread(runs, &mut firsts, &mut steps, &mut manys, n);
     let mut k: usize = 0;
     while k < m {
         let e = Equation::read(job, n, k);
@@ -46,21 +51,33 @@ pub fn families(job: &[u8], bounds: [Bounds; 256], n: usize, m: usize) -> State
         let right = e.right;
         let l = labels[left];
         let r = labels[right];
-        let p = runs[left];
-        let q = runs[right];
+        let x = manys[l as usize];
+        let y = manys[r as usize];
+        let p = Run {
+            first: firsts[left],
+            step: steps[left],
+            many: x,
+        };
+        let q = Run {
+            first: firsts[right],
+            step: steps[right],
+            many: y,
+        };
         let kept = leaves(e.form(), l, r, p, q);
         match kept {
             Kept::All => {}
             Kept::At(i) => {
-                runs = keep(runs, labels, l, r, i, n);
-                labels = components::joined(labels, l, r, n);
+                reduce::both(&labels, &nexts, &mut firsts, &mut steps, l, r, i, x, y, n);
+                components::join(&mut labels, &mut nexts, &mut lasts, l, r, n);
+                let many = i.left.many;
+                manys[components::lower(l, r) as usize] = many;
             }
         }
         k += 1;
     }
     State {
         labels: labels,
-        runs: runs,
+        runs: fields::gather(&labels, &firsts, &steps, &manys, n),
     }
 }
 
@@ -79,38 +96,4 @@ fn leaves(e: runs::Equation, l: u16, r: u16, p: Run, q: Run) -> Kept
         Remains::All => Kept::All,
         Remains::At(i) => Kept::At(Indices { left: i, right: i }),
     }
-}
-
-// The runs of n variables, of which those in the components l and r keep the members at their indices. No variable before the
-// lower of their lowest is in either.
-fn keep(runs: [Run; 256], labels: [u16; 256], l: u16, r: u16, kept: Indices, n: usize) -> [Run; 256]
-    requires { ⌜ n ≤ 256 ⌝ }
-    requires { ⌜ l < n ⌝ }
-    requires { ⌜ Labelled labels n ⌝ }
-    requires { ⌜ Reducible runs labels l r kept n ⌝ }
-    ensures { λ q. ⌜ Reduces runs labels l r kept n q ⌝ }
-{
-    let mut out = runs;
-    let mut i: usize = components::lower(l, r) as usize;
-    while i < n {
-        let run = runs[i];
-        out[i] = part(run, labels[i], l, r, kept);
-        i += 1;
-    }
-    out
-}
-
-// The run of a variable in the component g after that.
-fn part(run: Run, g: u16, l: u16, r: u16, kept: Indices) -> Run
-    requires { ⌜ FamilyRun run ⌝ }
-    requires { ⌜ FamilyRun (runAfter l r (indicesBy kept) g run) ⌝ }
-    ensures { λ q. ⌜ q ≡ runAfter l r (indicesBy kept) g run ⌝ }
-{
-    if g == l {
-        return parts::through(run, kept.left);
-    }
-    if g == r {
-        return parts::through(run, kept.right);
-    }
-    run
 }

@@ -1,13 +1,18 @@
 -- `families` meets its contract: equation by equation, the arrays follow the model.
-use mathlib.Core.Path.{_≡_, sym, _∙_, ap, subst}
+use mathlib.Core.Path.{_≡_, refl, sym, _∙_, ap, ap₂, subst}
 use mathlib.Core.Logic.{⊎-elim}
 use mathlib.Core.List.{List}
 use Prim.Native.Nat.{ℕ, suc, _+_, _-_, _≤_, _<_}
 use native.Mathlib.Omega.{arith}
 use borrow.Author.Needs.{needs}
-use lib.ListN.{length, getD}
+use lib.ListN.{length, getD, set, replicate, getD-replicate, length-set}
+use lib.IntN.{ℤ, pos}
+use mir.Syntax.{w64}
+use mir.Val.{SFits}
+use mir.Facts.{toZ-ofZ}
+use Rattle.ints.proofs.Signed.{held}
+use Rattle.families.specs.FamilyRun.{FamilyRun}
 use Rattle.runs.specs.declared.Run.{Run}
-use Rattle.runs.specs.Run.{empty}
 use Rattle.runs.specs.Workings.{CarryLimits}
 use Rattle.jobs.specs.declared.Equation.{Equation}
 use Rattle.jobs.specs.Job.{jobOf, variableCount, equationCount, form}
@@ -18,52 +23,86 @@ use Rattle.solver.specs.declared.equations.Kept.the-variants.{All, At as
 use Rattle.jobs.specs.declared.Bounds.{Bounds}
 use Rattle.jobs.specs.Bounds.{withBounds, BoundedBy}
 use Rattle.solver.specs.VariableArrays.{Begins}
+use Rattle.solver.specs.Fields.{gathered, Spreads}
+use Rattle.solver.specs.Labels.{Labelled}
+use Rattle.solver.proofs.MergedRows.{InRows, rows-apart}
 use Rattle.solver.specs.Steps.{keptBy}
-use Rattle.solver.proofs.LawfulRows.{Sizes, n-most, row-asked, left-below, right-below}
-use Rattle.solver.proofs.CodeFollowsModel.{Follows, At, limits, left-family, right-family, labelled, left-label, right-label, keeps, follows-same, reducible, follows-reduced}
+use Rattle.solver.proofs.LawfulRows.{Sizes, n-most, m-most, row-asked, left-below, right-below}
+use Rattle.solver.proofs.CodeFollowsModel.{Follows, At, limits, left-family, right-family, labelled, left-leads, right-leads, keeps, follows-same, reducible, follows-reduced}
 use Rattle.solver.proofs.FollowsWithBounds.{follows-start, follows-end, at-row}
 use Rattle.solver.proofs.equations.families.Statement.{statement}
 use Rattle.solver.proofs.equations.families.Tie as tie
 
 -- for whichever bounds the runs began with
-record Known (s : List ℕ) (n : ℕ) (begun : List Run) (k : ℕ) (labels : List ℕ) (runs : List Run) : Type 0 where
-  follows : (b : List Bounds) → BoundedBy b n → Begins b n begun → Follows (withBounds (jobOf s) b) k labels runs
+record Known (s : List ℕ) (n : ℕ) (firsts₀ steps₀ : List ℤ) (manys₀ : List ℕ) (k : ℕ) (labels : List ℕ) (firsts steps : List ℤ) (manys : List ℕ) : Type 0 where
+  follows : (b : List Bounds) (runs : List Run) → BoundedBy b n → Begins b n runs → Spreads runs n firsts₀ steps₀ manys₀ → Follows (withBounds (jobOf s) b) k labels firsts steps manys
+
+-- the arrays are as long as they were made, and the rows are those of the labels
+record Sound (labels nexts lasts : List ℕ) (firsts steps : List ℤ) (manys : List ℕ) (n : ℕ) : Type 0 where
+  long : length labels ≡ 256
+  placed : InRows labels nexts lasts n
+  firsts-256 : length firsts ≡ 256
+  steps-256 : length steps ≡ 256
+  manys-256 : length manys ≡ 256
 
 -- the first three of what is asked
 sizes : {s : List ℕ} {n m : ℕ} {A : Type 0} → Lawful s × ((n ≡ variableCount s) × ((m ≡ equationCount s) × A)) → Sizes s n m
 sizes p = (p .0, (p .1 .0, p .1 .1 .0))
 
 abbrev Inv-loop : tie.InvT-loop
-Inv-loop job n m labels₀ runs₀ k₀ labels runs k = (k ≤ m) × ((length labels ≡ 256) × ((length runs ≡ 256) × Known job n runs₀ k labels runs))
+Inv-loop job n m labels₀ nexts₀ lasts₀ firsts₀ steps₀ manys₀ k₀ labels nexts lasts firsts steps manys k =
+    (k ≤ m) × (Sound labels nexts lasts firsts steps manys n × Known job n firsts₀ steps₀ manys₀ k labels firsts steps manys)
 
 abbrev μ-loop : tie.MeasureT-loop
-μ-loop job n m labels₀ runs₀ k₀ labels runs k = m - k
+μ-loop job n m labels₀ nexts₀ lasts₀ firsts₀ steps₀ manys₀ k₀ labels nexts lasts firsts steps manys k = m - k
+
+cast-nexts : tie.Need-cast-nexts Inv-loop μ-loop
+cast-nexts c = record { fits = omega (arith, n-most (sizes (c .before .before .pre))) }
 
 start-requires : tie.Need-start-requires Inv-loop μ-loop
-start-requires c κs = let s = c .before .before in (n-most (sizes (s .pre)), s .pre .1 .1 .1)
+start-requires c κs = let s = c .before .before .before in (n-most (sizes (s .pre)), s .pre .1 .1 .1)
+
+spread-requires : tie.Need-spread-requires Inv-loop μ-loop
+spread-requires c κs = let s = c .before .before .before .before .before .before .before in (n-most (sizes (s .pre)), (search needs, (search needs, search needs)))
 
 loop-holds : tie.Need-loop-holds Inv-loop μ-loop
 loop-holds c =
-    let s = c .before .before .before in (
+    let p = c .before .before .before in
+    let d = p .before .before .before .before .before in
+    let a = d .before in
+    let s = a .before .before in
+    let x = s .args in
+    let z = sizes (s .pre) in (
       omega arith,
       (
-        search needs,
-        (
-          search needs,
-          record {
-            follows = λ b o e. follows-start (sizes (s .pre)) b o (c .before .apart .result) (c .start .result) (c .before .apart .ensures) e;
-          },
-        ),
+        record {
+          long = search needs;
+          placed = record {
+            linked-256 = search needs;
+            ended-256 = search needs;
+            rows = rows-apart (a .apart .result) (replicate 256 (x .n)) (d .apart2 .result) (x .n) (n-most z) (a .apart .ensures) (λ v h. getD-replicate 256 v (x .n) 0 (omega (arith, h, n-most z))) (d .apart2 .ensures);
+          };
+          firsts-256 = search needs;
+          steps-256 = search needs;
+          manys-256 = search needs;
+        },
+        record { follows = λ bounds runs o e r. follows-start z bounds o (a .apart .result) runs _ _ _ (a .apart .ensures) e r },
       ),
     )
 
 read-requires : tie.Need-read-requires Inv-loop μ-loop
-read-requires c κs = row-asked (sizes (c .before .before .before .before .before .pre)) (c .before .loop .k) (omega arith)
+read-requires c κs = row-asked (sizes (c .before .before .before .before .before .before .before .before .before .before .before .before .before .pre)) (c .before .loop .k) (omega arith)
 
 -- with a row in hand
 module _ (c : tie.After-read Inv-loop μ-loop) where
   abbrev s : tie.Start Inv-loop μ-loop
-  s = c .before .before .before .before .before .before
+  s = c .before .before .before .before .before .before .before .before .before .before .before .before .before .before
+
+  abbrev spread : tie.After-spread Inv-loop μ-loop
+  spread = c .before .before .before .before .before .before
+
+  abbrev begun : List Run
+  begun = spread .before .before .before .before .start .result
 
   abbrev e : Equation
   e = c .read .result
@@ -74,109 +113,234 @@ module _ (c : tie.After-read Inv-loop μ-loop) where
   abbrev labels : List ℕ
   labels = c .before .before .loop .labels
 
-  abbrev runs : List Run
-  runs = c .before .before .loop .runs
+  abbrev firsts : List ℤ
+  firsts = c .before .before .loop .firsts
+
+  abbrev steps : List ℤ
+  steps = c .before .before .loop .steps
+
+  abbrev manys : List ℕ
+  manys = c .before .before .loop .manys
+
+  sound : Sound labels (c .before .before .loop .nexts) (c .before .before .loop .lasts) firsts steps manys (s .args .n)
+  sound = c .before .before .loop .inv .1 .0
 
   k-below : k < s .args .m
   k-below = omega arith
 
+  n-256 : s .args .n ≤ 256
+  n-256 = n-most (sizes (s .pre))
+
   left-small : e .left < 256
-  left-small = omega (arith, left-below (sizes (s .pre)) k k-below e (c .read .ensures), n-most (sizes (s .pre)))
+  left-small = omega (arith, left-below (sizes (s .pre)) k k-below e (c .read .ensures), n-256)
 
   right-small : e .right < 256
-  right-small = omega (arith, right-below (sizes (s .pre)) k k-below e (c .read .ensures), n-most (sizes (s .pre)))
+  right-small = omega (arith, right-below (sizes (s .pre)) k k-below e (c .read .ensures), n-256)
 
   -- for any bounds with which the runs begin
-  at-any : (b : List Bounds) → BoundedBy b (s .args .n) → Begins b (s .args .n) (c .before .before .before .start .result) → At (withBounds (jobOf (s .args .job .now)) b) (s .args .n) k labels runs e
-  at-any b o h = at-row (sizes (s .pre)) b o k-below (c .before .before .loop .inv .1 .1 .1 .follows b o h) (c .read .ensures)
+  at-any : (b : List Bounds) (runs : List Run) → BoundedBy b (s .args .n) → Begins b (s .args .n) runs →
+      Spreads runs (s .args .n) (spread .spread .last .1 .0) (spread .spread .last .1 .1 .0) (spread .spread .last .1 .1 .1 .0) →
+      At (withBounds (jobOf (s .args .job .now)) b) (s .args .n) k labels firsts steps manys e
+  at-any b runs o h r = at-row (sizes (s .pre)) b o k-below (c .before .before .loop .inv .1 .1 .follows b runs o h r) (c .read .ensures)
 
   -- and for those that came in
-  at : At (withBounds (jobOf (s .args .job .now)) (s .args .bounds)) (s .args .n) k labels runs e
-  at = at-any (s .args .bounds) (s .pre .1 .1 .1) (c .before .before .before .start .ensures)
+  at : At (withBounds (jobOf (s .args .job .now)) (s .args .bounds)) (s .args .n) k labels firsts steps manys e
+  at = at-any (s .args .bounds) begun (s .pre .1 .1 .1) (spread .before .before .before .before .start .ensures) (spread .spread .ensures)
+
+  left-256 : getD labels (e .left) 0 < 256
+  left-256 = omega (arith, left-leads at .below, n-256)
+
+  right-256 : getD labels (e .right) 0 < 256
+  right-256 = omega (arith, right-leads at .below, n-256)
 
 mul-l : tie.Need-mul-l Inv-loop μ-loop
-mul-l c = let h : c .read .result .left < 256 = left-small c in record { fits = omega (arith, h) }
+mul-l c = record { fits = omega (arith, left-small c) }
 
 array-read-l : tie.Need-array-read-l Inv-loop μ-loop
 array-read-l c = left-small c
 
 mul-r : tie.Need-mul-r Inv-loop μ-loop
-mul-r c = let h : c .read .result .right < 256 = right-small c in record { fits = omega (arith, h) }
+mul-r c = record { fits = omega (arith, right-small c) }
 
 array-read-r : tie.Need-array-read-r Inv-loop μ-loop
 array-read-r c = right-small c
 
-mul-p : tie.Need-mul-p Inv-loop μ-loop
-mul-p c = let h : c .read .result .left < 256 = left-small c in record { fits = omega (arith, h) }
+cast-x : tie.Need-cast-x Inv-loop μ-loop
+cast-x c = record { fits = omega (arith, left-256 c) }
 
-array-copy-out-p : tie.Need-array-copy-out-p Inv-loop μ-loop
-array-copy-out-p c = left-small c
+mul-x : tie.Need-mul-x Inv-loop μ-loop
+mul-x c = record { fits = omega (arith, left-256 c) }
 
-mul-q : tie.Need-mul-q Inv-loop μ-loop
-mul-q c = let h : c .before .read .result .right < 256 = right-small (c .before) in record { fits = omega (arith, h) }
+array-read-x : tie.Need-array-read-x Inv-loop μ-loop
+array-read-x c = left-256 c
 
-array-copy-out-q : tie.Need-array-copy-out-q Inv-loop μ-loop
-array-copy-out-q c = right-small (c .before)
+cast-y : tie.Need-cast-y Inv-loop μ-loop
+cast-y c = record { fits = omega (arith, right-256 c) }
 
-leaves-requires : tie.Need-leaves-requires Inv-loop μ-loop
-leaves-requires c κs =
-    let a = at (c .before .before .before) in
-    (subst CarryLimits (sym (c .form .ensures)) (limits a), (left-family a, right-family a))
+mul-y : tie.Need-mul-y Inv-loop μ-loop
+mul-y c = record { fits = omega (arith, right-256 c) }
 
--- what the equation leaves
-module _ (c : tie.After-leaves Inv-loop μ-loop) where
+array-read-y : tie.Need-array-read-y Inv-loop μ-loop
+array-read-y c = right-256 c
+
+mul-t35 : tie.Need-mul-t35 Inv-loop μ-loop
+mul-t35 c = record { fits = omega (arith, left-small c) }
+
+array-copy-out-t49 : tie.Need-array-copy-out-t49 Inv-loop μ-loop
+array-copy-out-t49 c = left-small c
+
+mul-t41 : tie.Need-mul-t41 Inv-loop μ-loop
+mul-t41 c = record { fits = omega (arith, left-small (c .before)) }
+
+array-copy-out-t52 : tie.Need-array-copy-out-t52 Inv-loop μ-loop
+array-copy-out-t52 c = left-small (c .before)
+
+mul-t35-2 : tie.Need-mul-t35-2 Inv-loop μ-loop
+mul-t35-2 c = record { fits = omega (arith, right-small (c .before .before)) }
+
+array-copy-out-t52-2 : tie.Need-array-copy-out-t52-2 Inv-loop μ-loop
+array-copy-out-t52-2 c = right-small (c .before .before)
+
+mul-t41-2 : tie.Need-mul-t41-2 Inv-loop μ-loop
+mul-t41-2 c = record { fits = omega (arith, right-small (c .before .before .before)) }
+
+array-copy-out-t49-2 : tie.Need-array-copy-out-t49-2 Inv-loop μ-loop
+array-copy-out-t49-2 c = right-small (c .before .before .before)
+
+-- a run made of numbers that locals hold
+held-run : (a b : ℤ) (many : ℕ) → SFits w64 a → SFits w64 b → _≡_ {A = Run} record { first = held a; step = held b; many = many } record { first = a; step = b; many = many }
+held-run a b many f t = ap₂ (λ a b. record { first = a; step = b; many = many }) (toZ-ofZ f) (toZ-ofZ t)
+
+-- with the two runs
+module _ (c : tie.After-t492 Inv-loop μ-loop) where
   abbrev row : tie.After-read Inv-loop μ-loop
   row = c .before .before .before .before
 
-  kept-is : (x : Kept) → c .leaves .result ≡ x → keptBy x ≡ keeps (at row)
+  abbrev at-left : ℕ
+  at-left = e row .left
+
+  abbrev at-right : ℕ
+  at-right = e row .right
+
+  left-held : _≡_ {A = Run} record { first = held (getD (firsts row) at-left (pos 0)); step = held (getD (steps row) at-left (pos 0)); many = getD (manys row) (getD (labels row) at-left 0) 0 } (gathered (labels row) (firsts row) (steps row) (manys row) at-left)
+  left-held = held-run (getD (firsts row) at-left (pos 0)) (getD (steps row) at-left (pos 0)) _ record { sfits = c .before .before .before .t49 .given } record { sfits = c .before .before .t52 .given }
+
+  right-held : _≡_ {A = Run} record { first = held (getD (firsts row) at-right (pos 0)); step = held (getD (steps row) at-right (pos 0)); many = getD (manys row) (getD (labels row) at-right 0) 0 } (gathered (labels row) (firsts row) (steps row) (manys row) at-right)
+  right-held = held-run (getD (firsts row) at-right (pos 0)) (getD (steps row) at-right (pos 0)) _ record { sfits = c .before .t522 .given } record { sfits = c .t492 .given }
+
+leaves-requires : tie.Need-leaves-requires Inv-loop μ-loop
+leaves-requires c κs =
+    let a = at (row (c .before)) in
+    (subst CarryLimits (sym (c .form .ensures)) (limits a), (subst FamilyRun (sym (left-held (c .before))) (left-family a), subst FamilyRun (sym (right-held (c .before))) (right-family a)))
+
+-- what the equation leaves
+module _ (c : tie.After-leaves Inv-loop μ-loop) where
+  abbrev runs-read : tie.After-t492 Inv-loop μ-loop
+  runs-read = c .before .before
+
+  kept-is : (x : Kept) → c .leaves .result ≡ x → keptBy x ≡ keeps (at (row runs-read))
   kept-is x h =
       ap keptBy (sym h) ∙ c .leaves .ensures
-      ∙ ap (λ f. kept f (getD (labels row) (e row .left) 0) (getD (labels row) (e row .right) 0) (getD (runs row) (e row .left) empty) (getD (runs row) (e row .right) empty)) (c .before .form .ensures)
+      ∙ (λ t. kept (c .before .form .ensures t) (getD (labels (row runs-read)) (at-left runs-read) 0) (getD (labels (row runs-read)) (at-right runs-read) 0) (left-held runs-read t) (right-held runs-read t))
 
-keep-requires : tie.Need-keep-requires Inv-loop μ-loop
-keep-requires c κs =
-    let v = c .before .before .before in
-    let a = at (row v) in
-    let i = c .before .kept .given .0 .0 in
-    (n-most (sizes (s (row v) .pre)), (left-label a, (labelled a, reducible a i (kept-is v (At-indices i) (c .before .kept .given .1)))))
+both-requires : tie.Need-both-requires Inv-loop μ-loop
+both-requires c κs =
+    let t = c .before .before .before .before .before in
+    let v = t .before .before in
+    let r = row (runs-read v) in
+    let a = at r in
+    let z = sound r in
+    let i = t .kept .given .0 .0 in
+    (n-256 r, (z .placed .linked-256, (z .firsts-256, (z .steps-256, (labelled a, (z .placed .rows .linked, (left-leads a, (right-leads a, reducible a i (kept-is v (At-indices i) (t .kept .given .1))))))))))
 
-joined-requires : tie.Need-joined-requires Inv-loop μ-loop
-joined-requires c κs = let v = row (c .before .before .before .before) in let a = at v in (n-most (sizes (s v .pre)), (left-label a, (right-label a, labelled a)))
+slice-aggregate-join : tie.Need-slice-aggregate-join Inv-loop μ-loop
+slice-aggregate-join c = sym (sound (c .before .before .before .before .before .before .before .before .before .before .before .before .before .before .before .before .before) .long)
 
--- components and runs are what was made of them
-onward : (c : tie.After-read Inv-loop μ-loop) {labels labels′ : List ℕ} {runs runs′ : List Run} → labels ≡ labels′ → runs ≡ runs′ → length labels′ ≡ 256 → length runs′ ≡ 256 →
-    ((b : List Bounds) → BoundedBy b (s c .args .n) → Begins b (s c .args .n) (c .before .before .before .start .result) → Follows (withBounds (jobOf (s c .args .job .now)) b) (suc (k c)) labels′ runs′) →
-    (length labels ≡ 256) × ((length runs ≡ 256) × Known (s c .args .job .now) (s c .args .n) (c .before .before .before .start .result) (k c + 1) labels runs)
-onward c {labels} {labels′} {runs} {runs′} p q g r f =
+slice-aggregate-join-2 : tie.Need-slice-aggregate-join-2 Inv-loop μ-loop
+slice-aggregate-join-2 c = sym (sound (c .before .before .before .before .before .before .before .before .before .before .before .before .before .before .before .before .before .before) .placed .linked-256)
+
+slice-aggregate-join-3 : tie.Need-slice-aggregate-join-3 Inv-loop μ-loop
+slice-aggregate-join-3 c = sym (sound (c .before .before .before .before .before .before .before .before .before .before .before .before .before .before .before .before .before .before .before) .placed .ended-256)
+
+join-requires : tie.Need-join-requires Inv-loop μ-loop
+join-requires c κs =
+    let t = c .before .before .before .before .before .before .before .before .before .before .before in
+    let v = t .before .before in
+    let r = row (runs-read v) in
+    let a = at r in
+    let z = sound r in
+    (n-256 r, (z .long, (z .placed .linked-256, (z .placed .ended-256, (z .placed .rows, (left-leads a, right-leads a))))))
+
+-- the lowest variable of both
+low-256 : (c : tie.After-lower Inv-loop μ-loop) → c .lower .result < 256
+low-256 c = let r = c .before .before .before .before .before .before .before .before .before .before .before .before .before .before .before .before .before .before .before .before .before .before .before .before in omega (arith, c .lower .ensures, left-256 r)
+
+cast-manys : tie.Need-cast-manys Inv-loop μ-loop
+cast-manys c = record { fits = omega (arith, low-256 c) }
+
+mul-manys : tie.Need-mul-manys Inv-loop μ-loop
+mul-manys c = record { fits = omega (arith, low-256 c) }
+
+array-write-manys : tie.Need-array-write-manys Inv-loop μ-loop
+array-write-manys c = low-256 c
+
+add-k : tie.Need-add-k Inv-loop μ-loop
+add-k c = let r = row (runs-read (c .before)) in record { fits = omega (arith, k-below r, m-most (sizes (s r .pre))) }
+
+loop-less : tie.Need-loop-less Inv-loop μ-loop
+loop-less c = omega (arith, k-below (row (runs-read (c .before))))
+
+-- the arrays are what was made of them
+onward : (c : tie.After-read Inv-loop μ-loop) {labels labels′ nexts nexts′ lasts lasts′ manys manys′ : List ℕ} {firsts firsts′ steps steps′ : List ℤ} →
+    labels ≡ labels′ → nexts ≡ nexts′ → lasts ≡ lasts′ → firsts ≡ firsts′ → steps ≡ steps′ → manys ≡ manys′ → Sound labels′ nexts′ lasts′ firsts′ steps′ manys′ (s c .args .n) →
+    ((b : List Bounds) (runs : List Run) → BoundedBy b (s c .args .n) → Begins b (s c .args .n) runs →
+    Spreads runs (s c .args .n) (spread c .spread .last .1 .0) (spread c .spread .last .1 .1 .0) (spread c .spread .last .1 .1 .1 .0) → Follows (withBounds (jobOf (s c .args .job .now)) b) (suc (k c)) labels′ firsts′ steps′ manys′) →
+    Sound labels nexts lasts firsts steps manys (s c .args .n)
+    × Known (s c .args .job .now) (s c .args .n) (spread c .spread .last .1 .0) (spread c .spread .last .1 .1 .0) (spread c .spread .last .1 .1 .1 .0) (k c + 1) labels firsts steps manys
+onward c {labels} {labels′} {nexts} {nexts′} {lasts} {lasts′} {manys} {manys′} {firsts} {firsts′} {steps} {steps′} p q r u v w z f =
     let next : suc (k c) ≡ k c + 1 = omega arith in
-    rw (p, q) (g, (r, record { follows = λ b o h. subst (λ k. Follows (withBounds (jobOf (s c .args .job .now)) b) k labels′ runs′) next (f b o h) }))
+    rw (p, q, r, u, v, w) (z, record { follows = λ b runs o h e. subst (λ k. Follows (withBounds (jobOf (s c .args .job .now)) b) k labels′ firsts′ steps′ manys′) next (f b runs o h e) })
 
 loop-again : tie.Need-loop-again Inv-loop μ-loop
 loop-again c =
     let v = c .before in
-    let a = row v in
-    let l = a .before .before .loop in (
+    let a = row (runs-read v) in
+    let z = sound a in (
       omega arith,
       ⊎-elim
-          (λ w. onward a (w .2) (w .3) (l .inv .1 .0) (l .inv .1 .1 .0) (λ b o h. follows-same (at-any a b o h) (kept-is v All (w .1 .given .1))))
-          (λ w. onward a (w .5) (w .6) (search needs) (search needs)
-          (λ b o h. follows-reduced (at-any a b o h) (w .1 .given .0 .0) (kept-is v (At-indices (w .1 .given .0 .0)) (w .1 .given .1)) (w .4 .result) (w .3 .result) (w .4 .ensures) (w .3 .ensures)))
+          (λ w. onward a (w .2) (w .3) (w .4) (w .5) (w .6) (w .7) z (λ b runs o h e. follows-same (at-any a b runs o h e) (kept-is v All (w .1 .given .1))))
+          (λ w. onward a (w .18) (w .19) (w .20) (w .21) (w .22) (w .23)
+          record { long = search needs; placed = record { linked-256 = search needs; ended-256 = search needs; rows = w .13 .ensures .1 }; firsts-256 = search needs; steps-256 = search needs; manys-256 = length-set (manys a) (w .17 .result) (w .1 .given .0 .0 .left .many) ∙ z .manys-256 }
+          (λ b runs o h e. follows-reduced (at-any a b runs o h e) (w .1 .given .0 .0) (kept-is v (At-indices (w .1 .given .0 .0)) (w .1 .given .1)) (w .13 .last .0) (w .13 .ensures .0)
+          (w .7 .last .1 .1 .0) (w .7 .last .1 .1 .1 .0) (w .17 .result) (w .7 .ensures) (w .17 .ensures) (z .manys-256) (n-256 a)))
           (c .match .came),
     )
 
+gather-requires : tie.Need-gather-requires Inv-loop μ-loop
+gather-requires c κs =
+    let l = c .before .before .before .before .before .loop in
+    let s = c .before .before .before .before .before .before .before .before .before .before .before .before .before .before .before .before .before in
+    let z = l .inv .1 .0 in
+    (n-most (sizes (s .pre)), (z .long, (z .firsts-256, (z .steps-256, (z .manys-256, z .placed .rows .low)))))
+
 returns : tie.Need-returns Inv-loop μ-loop
 returns c =
-    let s = c .before .before .before .before .before in
-    let l = c .before .loop in
-    let z = sizes (s .pre) in
+    let l = c .before .before .before .before .before .before .loop in
+    let p = c .before .before .before .before .before .before .before .before .before .before in
+    let s = p .before .before .before .before .before .before .before .before in
+    let b = s .args .bounds in
+    let o = s .pre .1 .1 .1 in
     let e : l .k ≡ s .args .m = omega arith in
-    follows-end z (s .args .bounds) (s .pre .1 .1 .1) (l .labels) (l .runs)
-    (subst (λ k. Follows (withBounds (jobOf (s .args .job .now)) (s .args .bounds)) k (l .labels) (l .runs)) e
-    (l .inv .1 .1 .1 .follows (s .args .bounds) (s .pre .1 .1 .1) (c .before .before .start .ensures)))
+    follows-end (sizes (s .pre)) b o (l .labels) (l .firsts) (l .steps) (l .manys) (c .gather .result)
+    (subst (λ k. Follows (withBounds (jobOf (s .args .job .now)) b) k (l .labels) (l .firsts) (l .steps) (l .manys)) e (l .inv .1 .1 .follows b (p .before .before .before .before .start .result) o (p .before .before .before .before .start .ensures) (p .spread .ensures)))
+    (c .gather .ensures)
 
 pub families-spec : {M : Type 1} → statement M
 families-spec =
     tie.close
-    (tie.spec Inv-loop μ-loop (search needs) start-requires loop-holds read-requires mul-l array-read-l mul-r
-    array-read-r mul-p array-copy-out-p mul-q array-copy-out-q (search needs) leaves-requires (search needs)
-    (search needs) keep-requires joined-requires (λ c. omega arith) (λ c. omega arith) loop-again returns)
+    (tie.spec Inv-loop μ-loop (search needs) cast-nexts (search needs) start-requires (λ c. search needs) (λ c. search needs) (λ c. search needs) spread-requires loop-holds read-requires
+    mul-l array-read-l mul-r array-read-r cast-x mul-x array-read-x cast-y mul-y array-read-y mul-t35 array-copy-out-t49 mul-t41 array-copy-out-t52
+    mul-t35-2 array-copy-out-t52-2 mul-t41-2 array-copy-out-t49-2 (search needs) leaves-requires (search needs) (search needs)
+    (λ c. search needs) (λ c. search needs) (λ c. search needs) (λ c. search needs) both-requires slice-aggregate-join slice-aggregate-join-2 slice-aggregate-join-3 join-requires
+    (λ c κs. search needs) cast-manys mul-manys array-write-manys add-k loop-less loop-again
+    (λ c. search needs) (λ c. search needs) (λ c. search needs) (λ c. search needs) gather-requires returns)

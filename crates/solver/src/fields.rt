@@ -1,0 +1,72 @@
+//! The runs of all variables field by field. An array of numbers can be lent and written in place; an array of structs is copied whenever
+//! it is passed on, which inside the loop over the equations would cost more than all its sums.
+
+ghost use mathlib.Core.Path.{_≡_};
+ghost use Prim.Native.Nat.{_≤_};
+ghost use lib.ListN.{length};
+ghost use Rattle.lists.specs.Table.{Tabulates};
+ghost use Rattle.solver.specs.Labels.{Labelled};
+ghost use Rattle.solver.specs.Fields.{Spreads, gathered};
+ghost use Rattle.runs.specs.Run.{empty};
+use runs::Run;
+
+// The runs of n variables, taken apart.
+pub(crate) fn spread(
+    runs: [Run; 256],
+    firsts: &mut [i64],
+    steps: &mut [i64],
+    manys: &mut [u32],
+    n: usize,
+)
+    requires { ⌜ n ≤ 256 ⌝ }
+    requires { ⌜ length (now firsts) ≡ 256 ⌝ }
+    requires { ⌜ length (now steps) ≡ 256 ⌝ }
+    requires { ⌜ length (now manys) ≡ 256 ⌝ }
+    ensures { λ _. ⌜ Spreads runs n (now (firsts .exit)) (now (steps .exit)) (now (manys .exit)) ⌝ }
+{
+    let mut i: usize = 0;
+    while i < n {
+        let run = runs[i];
+        let first = run.first;
+        let step = run.step;
+        let many = run.many;
+        firsts[i] = first;
+        steps[i] = step;
+        manys[i] = many;
+        i += 1;
+    }
+}
+
+// And put together: how many a variable's run has stands at the lowest variable of its component.
+pub(crate) fn gather(
+    labels: &[u16],
+    firsts: &[i64],
+    steps: &[i64],
+    manys: &[u32],
+    n: usize,
+) -> [Run; 256]
+    requires { ⌜ n ≤ 256 ⌝ }
+    requires { ⌜ length (now labels) ≡ 256 ⌝ }
+    requires { ⌜ length (now firsts) ≡ 256 ⌝ }
+    requires { ⌜ length (now steps) ≡ 256 ⌝ }
+    requires { ⌜ length (now manys) ≡ 256 ⌝ }
+    requires { ⌜ Labelled (now labels) n ⌝ }
+    ensures { λ r. ⌜ Tabulates empty (gathered (now (labels .entry)) (now (firsts .entry)) (now (steps .entry)) (now (manys .entry))) n r ⌝ }
+{
+    let mut runs: [Run; 256] = [Run {
+        first: 0,
+        step: 0,
+        many: 0,
+    }; 256];
+    let mut i: usize = 0;
+    while i < n {
+        let l = labels[i] as usize;
+        runs[i] = Run {
+            first: firsts[i],
+            step: steps[i],
+            many: manys[l],
+        };
+        i += 1;
+    }
+    runs
+}
