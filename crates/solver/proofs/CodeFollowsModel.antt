@@ -32,7 +32,7 @@ use Rattle.families.proofs.Subfamily.{after-left, after-right, after-other}
 use Rattle.families.proofs.ModelIsExact.{exact}
 use Rattle.solver.specs.declared.join.Indices.{Indices}
 use Rattle.solver.specs.Labels.{Labelled, Merges, Labels, Apart}
-use Rattle.solver.specs.Rows.{Leads}
+use Rattle.solver.specs.Spans.{Leads}
 use Rattle.solver.specs.Fields.{runOf, gathered, Spreads}
 use Rattle.solver.specs.Steps.{indicesBy, Reducible, BothReducible, BothReduce}
 

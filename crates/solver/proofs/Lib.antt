@@ -2,8 +2,8 @@
 
 -- two labels that become one
 pub mod MergedLabels
--- two rows of variables that become one
-pub mod MergedRows
+-- labels and spans of components that become one
+pub mod SpannedLabels
 -- whether an equation joins two sets: the program's test tells just that (`joins-told`)
 pub mod JoinTest
 -- the lowest variables of the components, one after the other

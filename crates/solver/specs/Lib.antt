@@ -8,8 +8,8 @@ pub mod Families
 pub mod VariableArrays
 -- components as a list of labels
 pub mod Labels
--- the variables of each component in a row
-pub mod Rows
+-- from where to where the variables of a component lie
+pub mod Spans
 -- what is promised of the pass over the equations: all that the map shows
 pub mod Structured
 -- the runs of all variables field by field

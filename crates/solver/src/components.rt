@@ -7,7 +7,7 @@ ghost use lib.Dec.{eqb};
 ghost use lib.ListN.{length};
 ghost use Rattle.lists.specs.Table.{Tabulates};
 ghost use Rattle.solver.specs.Labels.{Apart, Labelled, Lowest, Merges};
-ghost use Rattle.solver.specs.Rows.{Leads, Linked, Before, Rows};
+ghost use Rattle.solver.specs.Spans.{Leads, Between, Spans};
 ghost use Rattle.solver.specs.StateArrays.{labelIn};
 ghost use Rattle.families.specs.ModelFindings.{leadsBy, componentBy};
 
@@ -45,76 +45,56 @@ pub(crate) fn apart() -> [u16; 256]
     labels
 }
 
-// The components l and r as one, among n variables; where they are one already, nothing changes. The variables of a component stand in
-// a row, from the lowest on: `nexts` has behind each of them the next one, and n behind the last; `lasts` has the last one, at the lowest.
-pub(crate) fn join(
-    labels: &mut [u16],
-    nexts: &mut [u16],
-    lasts: &mut [u16],
-    l: u16,
-    r: u16,
-    n: usize,
-)
+// The components l and r as one, among n variables; where they are one already, nothing changes. The variables of a component lie from
+// its lowest to the one that `lasts` has at the lowest.
+pub(crate) fn join(labels: &mut [u16], lasts: &mut [u16], l: u16, r: u16, n: usize)
     requires { ⌜ n ≤ 256 ⌝ }
     requires { ⌜ length (now labels) ≡ 256 ⌝ }
-    requires { ⌜ length (now nexts) ≡ 256 ⌝ }
     requires { ⌜ length (now lasts) ≡ 256 ⌝ }
-    requires { ⌜ Rows (now labels) (now nexts) (now lasts) n ⌝ }
+    requires { ⌜ Spans (now labels) (now lasts) n ⌝ }
     requires { ⌜ Leads (now labels) n l ⌝ }
     requires { ⌜ Leads (now labels) n r ⌝ }
     ensures { λ _. ⌜ Merges (now (labels .entry)) l r n (now (labels .exit)) ⌝ }
-    ensures { λ _. ⌜ Rows (now (labels .exit)) (now (nexts .exit)) (now (lasts .exit)) n ⌝ }
+    ensures { λ _. ⌜ Spans (now (labels .exit)) (now (lasts .exit)) n ⌝ }
 {
     if joins(l, r) {
-        link(labels, nexts, lasts, lower(l, r), higher(l, r), n);
+        take_up(labels, lasts, lower(l, r), higher(l, r), n);
     }
 }
 
-// Two components, by their lowest variables. The row of the higher is put in behind the last of the other, where that comes before it.
-fn link(labels: &mut [u16], nexts: &mut [u16], lasts: &mut [u16], low: u16, high: u16, n: usize)
+// The component of `high`, taken up by that of `low`.
+fn take_up(labels: &mut [u16], lasts: &mut [u16], low: u16, high: u16, n: usize)
     requires { ⌜ n ≤ 256 ⌝ }
     requires { ⌜ length (now labels) ≡ 256 ⌝ }
-    requires { ⌜ length (now nexts) ≡ 256 ⌝ }
     requires { ⌜ length (now lasts) ≡ 256 ⌝ }
-    requires { ⌜ Rows (now labels) (now nexts) (now lasts) n ⌝ }
+    requires { ⌜ Spans (now labels) (now lasts) n ⌝ }
     requires { ⌜ Leads (now labels) n low ⌝ }
     requires { ⌜ Leads (now labels) n high ⌝ }
     requires { ⌜ low < high ⌝ }
     ensures { λ _. ⌜ Merges (now (labels .entry)) low high n (now (labels .exit)) ⌝ }
-    ensures { λ _. ⌜ Rows (now (labels .exit)) (now (nexts .exit)) (now (lasts .exit)) n ⌝ }
+    ensures { λ _. ⌜ Spans (now (labels .exit)) (now (lasts .exit)) n ⌝ }
 {
-    let last = lasts[low as usize];
-    let from = if last < high { last } else { low };
-    merge(labels, nexts, from as usize, low, high as usize, n);
-    lasts[low as usize] = higher(last, lasts[high as usize]);
+    let last = lasts[high as usize];
+    rename(labels, low, high, last as usize + 1, n);
+    lasts[low as usize] = higher(lasts[low as usize], last);
 }
 
-// The row that begins at `high` put into that of `low`, variable by variable, each of them with its new label. `from` stands in the row of
-// `low`, before all of the other.
-fn merge(labels: &mut [u16], nexts: &mut [u16], from: usize, low: u16, high: usize, n: usize)
+// Those labelled with the higher take the lower: they lie from it on, before `end`. Every label on the way is written, changed or not, so
+// that no branch depends on it.
+fn rename(labels: &mut [u16], low: u16, high: u16, end: usize, n: usize)
     requires { ⌜ n ≤ 256 ⌝ }
     requires { ⌜ length (now labels) ≡ 256 ⌝ }
-    requires { ⌜ length (now nexts) ≡ 256 ⌝ }
-    requires { ⌜ Labelled (now labels) n ⌝ }
-    requires { ⌜ Linked (now labels) (now nexts) n ⌝ }
-    requires { ⌜ Before (now labels) n from low high ⌝ }
+    requires { ⌜ low < high ⌝ }
+    requires { ⌜ high < end ⌝ }
+    requires { ⌜ end ≤ n ⌝ }
+    requires { ⌜ Between (now labels) n high end ⌝ }
     ensures { λ _. ⌜ Merges (now (labels .entry)) low high n (now (labels .exit)) ⌝ }
-    ensures { λ _. ⌜ Linked (now (labels .exit)) (now (nexts .exit)) n ⌝ }
 {
-    let mut at: usize = from;
-    let mut v: usize = high;
-    while v < n {
-        let next = nexts[at] as usize;
-        if next < v {
-            at = next;
-        } else {
-            let rest = nexts[v] as usize;
-            nexts[at] = v as u16;
-            nexts[v] = next as u16;
-            labels[v] = low;
-            at = v;
-            v = rest;
-        }
+    let mut i: usize = high as usize;
+    while i < end {
+        let label = labels[i];
+        labels[i] = if label == high { low } else { label };
+        i += 1;
     }
 }
 

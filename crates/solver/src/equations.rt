@@ -37,7 +37,6 @@ pub fn families(job: &[u8], bounds: [Bounds; 256], n: usize, m: usize) -> State
     ensures { λ r. ⌜ Families (withBounds (jobOf (now (job .entry))) bounds) r ⌝ }
 {
     let mut labels = components::apart();
-    let mut nexts: [u16; 256] = [n as u16; 256];
     let mut lasts = components::apart();
     let runs = range::start(bounds, n);
     let mut firsts: [i64; 256] = [0; 256];
@@ -67,8 +66,8 @@ pub fn families(job: &[u8], bounds: [Bounds; 256], n: usize, m: usize) -> State
         match kept {
             Kept::All => {}
             Kept::At(i) => {
-                reduce::both(&labels, &nexts, &mut firsts, &mut steps, l, r, i, x, y, n);
-                components::join(&mut labels, &mut nexts, &mut lasts, l, r, n);
+                reduce::both(&labels, &lasts, &mut firsts, &mut steps, l, r, i, x, y, n);
+                components::join(&mut labels, &mut lasts, l, r, n);
                 let many = i.left.many;
                 manys[components::lower(l, r) as usize] = many;
             }

@@ -4,19 +4,17 @@ ghost use mathlib.Core.Path.{_≡_};
 ghost use mathlib.Core.Bool.{true};
 ghost use Prim.Native.Nat.{_≤_};
 ghost use lib.ListN.{length};
-ghost use Rattle.solver.specs.Labels.{Labelled};
-ghost use Rattle.solver.specs.Rows.{Leads, Linked};
+ghost use Rattle.solver.specs.Spans.{Leads, Spans};
 ghost use Rattle.solver.specs.Steps.{Stays, Reducible, Reduces, BothReducible, BothReduce};
 use crate::components;
 use crate::join::Indices;
 use crate::parts;
 use runs::Run;
 
-// Of the families of the components l and r, which have x and y members, those at their indices stay. Whose rows they are of which `nexts`
-// has the links, `labels` says: here and below it stands for the contracts alone.
+// Of the families of the components l and r, which have x and y members, those at their indices stay.
 pub(crate) fn both(
     labels: &[u16],
-    nexts: &[u16],
+    lasts: &[u16],
     firsts: &mut [i64],
     steps: &mut [i64],
     l: u16,
@@ -27,26 +25,26 @@ pub(crate) fn both(
     n: usize,
 )
     requires { ⌜ n ≤ 256 ⌝ }
-    requires { ⌜ length (now nexts) ≡ 256 ⌝ }
+    requires { ⌜ length (now lasts) ≡ 256 ⌝ }
     requires { ⌜ length (now firsts) ≡ 256 ⌝ }
     requires { ⌜ length (now steps) ≡ 256 ⌝ }
-    requires { ⌜ Labelled (now labels) n ⌝ }
-    requires { ⌜ Linked (now labels) (now nexts) n ⌝ }
+    requires { ⌜ length (now labels) ≡ 256 ⌝ }
+    requires { ⌜ Spans (now labels) (now lasts) n ⌝ }
     requires { ⌜ Leads (now labels) n l ⌝ }
     requires { ⌜ Leads (now labels) n r ⌝ }
     requires { ⌜ BothReducible (now labels) (now firsts) (now steps) l r kept x y n ⌝ }
     ensures { λ _. ⌜ BothReduce (now (labels .entry)) (now (firsts .entry)) (now (steps .entry)) l r kept n (now (firsts .exit)) (now (steps .exit)) ⌝ }
 {
-    one(labels, nexts, firsts, steps, l, kept.left, x, n);
+    one(labels, lasts, firsts, steps, l, kept.left, x, n);
     if components::joins(l, r) {
-        one(labels, nexts, firsts, steps, r, kept.right, y, n);
+        one(labels, lasts, firsts, steps, r, kept.right, y, n);
     }
 }
 
 // Of one family, of so many members. Where they keep their places, there is nothing to be done.
 fn one(
     labels: &[u16],
-    nexts: &[u16],
+    lasts: &[u16],
     firsts: &mut [i64],
     steps: &mut [i64],
     g: u16,
@@ -55,17 +53,17 @@ fn one(
     n: usize,
 )
     requires { ⌜ n ≤ 256 ⌝ }
-    requires { ⌜ length (now nexts) ≡ 256 ⌝ }
+    requires { ⌜ length (now lasts) ≡ 256 ⌝ }
     requires { ⌜ length (now firsts) ≡ 256 ⌝ }
     requires { ⌜ length (now steps) ≡ 256 ⌝ }
-    requires { ⌜ Labelled (now labels) n ⌝ }
-    requires { ⌜ Linked (now labels) (now nexts) n ⌝ }
+    requires { ⌜ length (now labels) ≡ 256 ⌝ }
+    requires { ⌜ Spans (now labels) (now lasts) n ⌝ }
     requires { ⌜ Leads (now labels) n g ⌝ }
     requires { ⌜ Reducible (now labels) (now firsts) (now steps) g kept many n ⌝ }
     ensures { λ _. ⌜ Reduces (now (labels .entry)) (now (firsts .entry)) (now (steps .entry)) g kept n (now (firsts .exit)) (now (steps .exit)) ⌝ }
 {
     if !stay(kept, many) {
-        walk(labels, nexts, firsts, steps, g, kept, many, n);
+        walk(labels, lasts, firsts, steps, g, kept, many, n);
     }
 }
 
@@ -88,10 +86,10 @@ fn stay(kept: Run, many: u32) -> bool
     kept.step == 1
 }
 
-// The numbers of each variable of the component g, along its row.
+// The numbers of each variable of the component g: they lie from it to its last.
 fn walk(
     labels: &[u16],
-    nexts: &[u16],
+    lasts: &[u16],
     firsts: &mut [i64],
     steps: &mut [i64],
     g: u16,
@@ -100,27 +98,30 @@ fn walk(
     n: usize,
 )
     requires { ⌜ n ≤ 256 ⌝ }
-    requires { ⌜ length (now nexts) ≡ 256 ⌝ }
+    requires { ⌜ length (now lasts) ≡ 256 ⌝ }
     requires { ⌜ length (now firsts) ≡ 256 ⌝ }
     requires { ⌜ length (now steps) ≡ 256 ⌝ }
-    requires { ⌜ Labelled (now labels) n ⌝ }
-    requires { ⌜ Linked (now labels) (now nexts) n ⌝ }
+    requires { ⌜ length (now labels) ≡ 256 ⌝ }
+    requires { ⌜ Spans (now labels) (now lasts) n ⌝ }
     requires { ⌜ Leads (now labels) n g ⌝ }
     requires { ⌜ Reducible (now labels) (now firsts) (now steps) g kept many n ⌝ }
     ensures { λ _. ⌜ Reduces (now (labels .entry)) (now (firsts .entry)) (now (steps .entry)) g kept n (now (firsts .exit)) (now (steps .exit)) ⌝ }
 {
+    let end = lasts[g as usize] as usize + 1;
     let mut i: usize = g as usize;
-    while i < n {
-        let run = Run {
-            first: firsts[i],
-            step: steps[i],
-            many: many,
-        };
-        let part = parts::through(run, kept);
-        let first = part.first;
-        let step = part.step;
-        firsts[i] = first;
-        steps[i] = step;
-        i = nexts[i] as usize;
+    while i < end {
+        if labels[i] == g {
+            let run = Run {
+                first: firsts[i],
+                step: steps[i],
+                many: many,
+            };
+            let part = parts::through(run, kept);
+            let first = part.first;
+            let step = part.step;
+            firsts[i] = first;
+            steps[i] = step;
+        }
+        i += 1;
     }
 }

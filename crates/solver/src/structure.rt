@@ -25,7 +25,6 @@ pub fn of_job(job: &[u8], n: usize, m: usize) -> Structure
     ensures { λ r. ⌜ Structured (jobOf (now (job .entry))) m n r ⌝ }
 {
     let mut labels = components::apart();
-    let mut nexts: [u16; 256] = [n as u16; 256];
     let mut lasts = components::apart();
     let mut found = Structure {
         labels: [0; 256],
@@ -44,7 +43,7 @@ pub fn of_job(job: &[u8], n: usize, m: usize) -> Structure
         found.homes[k] = left as u16;
         found.degrees[left] = found.degrees[left] + 1;
         found.degrees[right] = found.degrees[right] + 1;
-        components::join(&mut labels, &mut nexts, &mut lasts, l, r, n);
+        components::join(&mut labels, &mut lasts, l, r, n);
         k += 1;
     }
     found.labels = labels;

@@ -25,7 +25,7 @@ use Rattle.jobs.specs.Bounds.{withBounds, BoundedBy}
 use Rattle.solver.specs.VariableArrays.{Begins}
 use Rattle.solver.specs.Fields.{gathered, Spreads}
 use Rattle.solver.specs.Labels.{Labelled}
-use Rattle.solver.proofs.MergedRows.{InRows, rows-apart}
+use Rattle.solver.proofs.SpannedLabels.{InSpans, spans-apart, spans-labelled}
 use Rattle.solver.specs.Steps.{keptBy}
 use Rattle.solver.proofs.LawfulRows.{Sizes, n-most, m-most, row-asked, left-below, right-below}
 use Rattle.solver.proofs.CodeFollowsModel.{Follows, At, limits, left-family, right-family, labelled, left-leads, right-leads, keeps, follows-same, reducible, follows-reduced}
@@ -37,10 +37,9 @@ use Rattle.solver.proofs.equations.families.Tie as tie
 record Known (s : List ℕ) (n : ℕ) (firsts₀ steps₀ : List ℤ) (manys₀ : List ℕ) (k : ℕ) (labels : List ℕ) (firsts steps : List ℤ) (manys : List ℕ) : Type 0 where
   follows : (b : List Bounds) (runs : List Run) → BoundedBy b n → Begins b n runs → Spreads runs n firsts₀ steps₀ manys₀ → Follows (withBounds (jobOf s) b) k labels firsts steps manys
 
--- the arrays are as long as they were made, and the rows are those of the labels
-record Sound (labels nexts lasts : List ℕ) (firsts steps : List ℤ) (manys : List ℕ) (n : ℕ) : Type 0 where
-  long : length labels ≡ 256
-  placed : InRows labels nexts lasts n
+-- the arrays are as long as they were made, and the spans are those of the labels
+record Sound (labels lasts : List ℕ) (firsts steps : List ℤ) (manys : List ℕ) (n : ℕ) : Type 0 where
+  placed : InSpans labels lasts n
   firsts-256 : length firsts ≡ 256
   steps-256 : length steps ≡ 256
   manys-256 : length manys ≡ 256
@@ -50,14 +49,11 @@ sizes : {s : List ℕ} {n m : ℕ} {A : Type 0} → Lawful s × ((n ≡ variable
 sizes p = (p .0, (p .1 .0, p .1 .1 .0))
 
 abbrev Inv-loop : tie.InvT-loop
-Inv-loop job n m labels₀ nexts₀ lasts₀ firsts₀ steps₀ manys₀ k₀ labels nexts lasts firsts steps manys k =
-    (k ≤ m) × (Sound labels nexts lasts firsts steps manys n × Known job n firsts₀ steps₀ manys₀ k labels firsts steps manys)
+Inv-loop job n m labels₀ lasts₀ firsts₀ steps₀ manys₀ k₀ labels lasts firsts steps manys k =
+    (k ≤ m) × (Sound labels lasts firsts steps manys n × Known job n firsts₀ steps₀ manys₀ k labels firsts steps manys)
 
 abbrev μ-loop : tie.MeasureT-loop
-μ-loop job n m labels₀ nexts₀ lasts₀ firsts₀ steps₀ manys₀ k₀ labels nexts lasts firsts steps manys k = m - k
-
-cast-nexts : tie.Need-cast-nexts Inv-loop μ-loop
-cast-nexts c = record { fits = omega (arith, n-most (sizes (c .before .before .pre))) }
+μ-loop job n m labels₀ lasts₀ firsts₀ steps₀ manys₀ k₀ labels lasts firsts steps manys k = m - k
 
 start-requires : tie.Need-start-requires Inv-loop μ-loop
 start-requires c κs = let s = c .before .before .before in (n-most (sizes (s .pre)), s .pre .1 .1 .1)
@@ -76,12 +72,7 @@ loop-holds c =
       omega arith,
       (
         record {
-          long = search needs;
-          placed = record {
-            linked-256 = search needs;
-            ended-256 = search needs;
-            rows = rows-apart (a .apart .result) (replicate 256 (x .n)) (d .apart2 .result) (x .n) (n-most z) (a .apart .ensures) (λ v h. getD-replicate 256 v (x .n) 0 (omega (arith, h, n-most z))) (d .apart2 .ensures);
-          };
+          placed = record { labelled-256 = search needs; ended-256 = search needs; spans = spans-apart (a .apart .result) (d .apart2 .result) (x .n) (n-most z) (a .apart .ensures) (d .apart2 .ensures) };
           firsts-256 = search needs;
           steps-256 = search needs;
           manys-256 = search needs;
@@ -122,7 +113,7 @@ module _ (c : tie.After-read Inv-loop μ-loop) where
   abbrev manys : List ℕ
   manys = c .before .before .loop .manys
 
-  sound : Sound labels (c .before .before .loop .nexts) (c .before .before .loop .lasts) firsts steps manys (s .args .n)
+  sound : Sound labels (c .before .before .loop .lasts) firsts steps manys (s .args .n)
   sound = c .before .before .loop .inv .1 .0
 
   k-below : k < s .args .m
@@ -183,36 +174,36 @@ mul-y c = record { fits = omega (arith, right-256 c) }
 array-read-y : tie.Need-array-read-y Inv-loop μ-loop
 array-read-y c = right-256 c
 
-mul-t35 : tie.Need-mul-t35 Inv-loop μ-loop
-mul-t35 c = record { fits = omega (arith, left-small c) }
+mul-t33 : tie.Need-mul-t33 Inv-loop μ-loop
+mul-t33 c = record { fits = omega (arith, left-small c) }
 
-array-copy-out-t49 : tie.Need-array-copy-out-t49 Inv-loop μ-loop
-array-copy-out-t49 c = left-small c
+array-copy-out-t47 : tie.Need-array-copy-out-t47 Inv-loop μ-loop
+array-copy-out-t47 c = left-small c
 
-mul-t41 : tie.Need-mul-t41 Inv-loop μ-loop
-mul-t41 c = record { fits = omega (arith, left-small (c .before)) }
+mul-t39 : tie.Need-mul-t39 Inv-loop μ-loop
+mul-t39 c = record { fits = omega (arith, left-small (c .before)) }
 
-array-copy-out-t52 : tie.Need-array-copy-out-t52 Inv-loop μ-loop
-array-copy-out-t52 c = left-small (c .before)
+array-copy-out-t50 : tie.Need-array-copy-out-t50 Inv-loop μ-loop
+array-copy-out-t50 c = left-small (c .before)
 
-mul-t35-2 : tie.Need-mul-t35-2 Inv-loop μ-loop
-mul-t35-2 c = record { fits = omega (arith, right-small (c .before .before)) }
+mul-t33-2 : tie.Need-mul-t33-2 Inv-loop μ-loop
+mul-t33-2 c = record { fits = omega (arith, right-small (c .before .before)) }
 
-array-copy-out-t52-2 : tie.Need-array-copy-out-t52-2 Inv-loop μ-loop
-array-copy-out-t52-2 c = right-small (c .before .before)
+array-copy-out-t50-2 : tie.Need-array-copy-out-t50-2 Inv-loop μ-loop
+array-copy-out-t50-2 c = right-small (c .before .before)
 
-mul-t41-2 : tie.Need-mul-t41-2 Inv-loop μ-loop
-mul-t41-2 c = record { fits = omega (arith, right-small (c .before .before .before)) }
+mul-t39-2 : tie.Need-mul-t39-2 Inv-loop μ-loop
+mul-t39-2 c = record { fits = omega (arith, right-small (c .before .before .before)) }
 
-array-copy-out-t49-2 : tie.Need-array-copy-out-t49-2 Inv-loop μ-loop
-array-copy-out-t49-2 c = right-small (c .before .before .before)
+array-copy-out-t47-2 : tie.Need-array-copy-out-t47-2 Inv-loop μ-loop
+array-copy-out-t47-2 c = right-small (c .before .before .before)
 
 -- a run made of numbers that locals hold
 held-run : (a b : ℤ) (many : ℕ) → SFits w64 a → SFits w64 b → _≡_ {A = Run} record { first = held a; step = held b; many = many } record { first = a; step = b; many = many }
 held-run a b many f t = ap₂ (λ a b. record { first = a; step = b; many = many }) (toZ-ofZ f) (toZ-ofZ t)
 
 -- with the two runs
-module _ (c : tie.After-t492 Inv-loop μ-loop) where
+module _ (c : tie.After-t472 Inv-loop μ-loop) where
   abbrev row : tie.After-read Inv-loop μ-loop
   row = c .before .before .before .before
 
@@ -223,10 +214,10 @@ module _ (c : tie.After-t492 Inv-loop μ-loop) where
   at-right = e row .right
 
   left-held : _≡_ {A = Run} record { first = held (getD (firsts row) at-left (pos 0)); step = held (getD (steps row) at-left (pos 0)); many = getD (manys row) (getD (labels row) at-left 0) 0 } (gathered (labels row) (firsts row) (steps row) (manys row) at-left)
-  left-held = held-run (getD (firsts row) at-left (pos 0)) (getD (steps row) at-left (pos 0)) _ record { sfits = c .before .before .before .t49 .given } record { sfits = c .before .before .t52 .given }
+  left-held = held-run (getD (firsts row) at-left (pos 0)) (getD (steps row) at-left (pos 0)) _ record { sfits = c .before .before .before .t47 .given } record { sfits = c .before .before .t50 .given }
 
   right-held : _≡_ {A = Run} record { first = held (getD (firsts row) at-right (pos 0)); step = held (getD (steps row) at-right (pos 0)); many = getD (manys row) (getD (labels row) at-right 0) 0 } (gathered (labels row) (firsts row) (steps row) (manys row) at-right)
-  right-held = held-run (getD (firsts row) at-right (pos 0)) (getD (steps row) at-right (pos 0)) _ record { sfits = c .before .t522 .given } record { sfits = c .t492 .given }
+  right-held = held-run (getD (firsts row) at-right (pos 0)) (getD (steps row) at-right (pos 0)) _ record { sfits = c .before .t502 .given } record { sfits = c .t472 .given }
 
 leaves-requires : tie.Need-leaves-requires Inv-loop μ-loop
 leaves-requires c κs =
@@ -235,7 +226,7 @@ leaves-requires c κs =
 
 -- what the equation leaves
 module _ (c : tie.After-leaves Inv-loop μ-loop) where
-  abbrev runs-read : tie.After-t492 Inv-loop μ-loop
+  abbrev runs-read : tie.After-t472 Inv-loop μ-loop
   runs-read = c .before .before
 
   kept-is : (x : Kept) → c .leaves .result ≡ x → keptBy x ≡ keeps (at (row runs-read))
@@ -251,29 +242,24 @@ both-requires c κs =
     let a = at r in
     let z = sound r in
     let i = t .kept .given .0 .0 in
-    (n-256 r, (z .placed .linked-256, (z .firsts-256, (z .steps-256, (labelled a, (z .placed .rows .linked, (left-leads a, (right-leads a, reducible a i (kept-is v (At-indices i) (t .kept .given .1))))))))))
+    (n-256 r, (z .placed .ended-256, (z .firsts-256, (z .steps-256, (z .placed .labelled-256, (z .placed .spans, (left-leads a, (right-leads a, reducible a i (kept-is v (At-indices i) (t .kept .given .1))))))))))
 
 slice-aggregate-join : tie.Need-slice-aggregate-join Inv-loop μ-loop
-slice-aggregate-join c = sym (sound (c .before .before .before .before .before .before .before .before .before .before .before .before .before .before .before .before .before) .long)
+slice-aggregate-join c = sym (sound (c .before .before .before .before .before .before .before .before .before .before .before .before .before .before .before .before .before) .placed .labelled-256)
 
 slice-aggregate-join-2 : tie.Need-slice-aggregate-join-2 Inv-loop μ-loop
-slice-aggregate-join-2 c = sym (sound (c .before .before .before .before .before .before .before .before .before .before .before .before .before .before .before .before .before .before) .placed .linked-256)
-
-slice-aggregate-join-3 : tie.Need-slice-aggregate-join-3 Inv-loop μ-loop
-slice-aggregate-join-3 c = sym (sound (c .before .before .before .before .before .before .before .before .before .before .before .before .before .before .before .before .before .before .before) .placed .ended-256)
+slice-aggregate-join-2 c = sym (sound (c .before .before .before .before .before .before .before .before .before .before .before .before .before .before .before .before .before .before) .placed .ended-256)
 
 join-requires : tie.Need-join-requires Inv-loop μ-loop
 join-requires c κs =
-    let t = c .before .before .before .before .before .before .before .before .before .before .before in
-    let v = t .before .before in
-    let r = row (runs-read v) in
+    let r = c .before .before .before .before .before .before .before .before .before .before .before .before .before .before .before .before .before .before in
     let a = at r in
     let z = sound r in
-    (n-256 r, (z .long, (z .placed .linked-256, (z .placed .ended-256, (z .placed .rows, (left-leads a, right-leads a))))))
+    (n-256 r, (z .placed .labelled-256, (z .placed .ended-256, (z .placed .spans, (left-leads a, right-leads a)))))
 
 -- the lowest variable of both
 low-256 : (c : tie.After-lower Inv-loop μ-loop) → c .lower .result < 256
-low-256 c = let r = c .before .before .before .before .before .before .before .before .before .before .before .before .before .before .before .before .before .before .before .before .before .before .before .before in omega (arith, c .lower .ensures, left-256 r)
+low-256 c = let r = c .before .before .before .before .before .before .before .before .before .before .before .before .before .before .before .before .before .before .before .before .before .before in omega (arith, c .lower .ensures, left-256 r)
 
 cast-manys : tie.Need-cast-manys Inv-loop μ-loop
 cast-manys c = record { fits = omega (arith, low-256 c) }
@@ -291,15 +277,15 @@ loop-less : tie.Need-loop-less Inv-loop μ-loop
 loop-less c = omega (arith, k-below (row (runs-read (c .before))))
 
 -- the arrays are what was made of them
-onward : (c : tie.After-read Inv-loop μ-loop) {labels labels′ nexts nexts′ lasts lasts′ manys manys′ : List ℕ} {firsts firsts′ steps steps′ : List ℤ} →
-    labels ≡ labels′ → nexts ≡ nexts′ → lasts ≡ lasts′ → firsts ≡ firsts′ → steps ≡ steps′ → manys ≡ manys′ → Sound labels′ nexts′ lasts′ firsts′ steps′ manys′ (s c .args .n) →
+onward : (c : tie.After-read Inv-loop μ-loop) {labels labels′ lasts lasts′ manys manys′ : List ℕ} {firsts firsts′ steps steps′ : List ℤ} →
+    labels ≡ labels′ → lasts ≡ lasts′ → firsts ≡ firsts′ → steps ≡ steps′ → manys ≡ manys′ → Sound labels′ lasts′ firsts′ steps′ manys′ (s c .args .n) →
     ((b : List Bounds) (runs : List Run) → BoundedBy b (s c .args .n) → Begins b (s c .args .n) runs →
     Spreads runs (s c .args .n) (spread c .spread .last .1 .0) (spread c .spread .last .1 .1 .0) (spread c .spread .last .1 .1 .1 .0) → Follows (withBounds (jobOf (s c .args .job .now)) b) (suc (k c)) labels′ firsts′ steps′ manys′) →
-    Sound labels nexts lasts firsts steps manys (s c .args .n)
+    Sound labels lasts firsts steps manys (s c .args .n)
     × Known (s c .args .job .now) (s c .args .n) (spread c .spread .last .1 .0) (spread c .spread .last .1 .1 .0) (spread c .spread .last .1 .1 .1 .0) (k c + 1) labels firsts steps manys
-onward c {labels} {labels′} {nexts} {nexts′} {lasts} {lasts′} {manys} {manys′} {firsts} {firsts′} {steps} {steps′} p q r u v w z f =
+onward c {labels} {labels′} {lasts} {lasts′} {manys} {manys′} {firsts} {firsts′} {steps} {steps′} p r u v w z f =
     let next : suc (k c) ≡ k c + 1 = omega arith in
-    rw (p, q, r, u, v, w) (z, record { follows = λ b runs o h e. subst (λ k. Follows (withBounds (jobOf (s c .args .job .now)) b) k labels′ firsts′ steps′ manys′) next (f b runs o h e) })
+    rw (p, r, u, v, w) (z, record { follows = λ b runs o h e. subst (λ k. Follows (withBounds (jobOf (s c .args .job .now)) b) k labels′ firsts′ steps′ manys′) next (f b runs o h e) })
 
 loop-again : tie.Need-loop-again Inv-loop μ-loop
 loop-again c =
@@ -308,11 +294,11 @@ loop-again c =
     let z = sound a in (
       omega arith,
       ⊎-elim
-          (λ w. onward a (w .2) (w .3) (w .4) (w .5) (w .6) (w .7) z (λ b runs o h e. follows-same (at-any a b runs o h e) (kept-is v All (w .1 .given .1))))
-          (λ w. onward a (w .18) (w .19) (w .20) (w .21) (w .22) (w .23)
-          record { long = search needs; placed = record { linked-256 = search needs; ended-256 = search needs; rows = w .13 .ensures .1 }; firsts-256 = search needs; steps-256 = search needs; manys-256 = length-set (manys a) (w .17 .result) (w .1 .given .0 .0 .left .many) ∙ z .manys-256 }
-          (λ b runs o h e. follows-reduced (at-any a b runs o h e) (w .1 .given .0 .0) (kept-is v (At-indices (w .1 .given .0 .0)) (w .1 .given .1)) (w .13 .last .0) (w .13 .ensures .0)
-          (w .7 .last .1 .1 .0) (w .7 .last .1 .1 .1 .0) (w .17 .result) (w .7 .ensures) (w .17 .ensures) (z .manys-256) (n-256 a)))
+          (λ w. onward a (w .2) (w .3) (w .4) (w .5) (w .6) z (λ b runs o h e. follows-same (at-any a b runs o h e) (kept-is v All (w .1 .given .1))))
+          (λ w. onward a (w .16) (w .17) (w .18) (w .19) (w .20)
+          record { placed = record { labelled-256 = search needs; ended-256 = search needs; spans = w .12 .ensures .1 }; firsts-256 = search needs; steps-256 = search needs; manys-256 = length-set (manys a) (w .15 .result) (w .1 .given .0 .0 .left .many) ∙ z .manys-256 }
+          (λ b runs o h e. follows-reduced (at-any a b runs o h e) (w .1 .given .0 .0) (kept-is v (At-indices (w .1 .given .0 .0)) (w .1 .given .1)) (w .12 .last .0) (w .12 .ensures .0)
+          (w .7 .last .1 .1 .0) (w .7 .last .1 .1 .1 .0) (w .15 .result) (w .7 .ensures) (w .15 .ensures) (z .manys-256) (n-256 a)))
           (c .match .came),
     )
 
@@ -321,7 +307,7 @@ gather-requires c κs =
     let l = c .before .before .before .before .before .loop in
     let s = c .before .before .before .before .before .before .before .before .before .before .before .before .before .before .before .before .before in
     let z = l .inv .1 .0 in
-    (n-most (sizes (s .pre)), (z .long, (z .firsts-256, (z .steps-256, (z .manys-256, z .placed .rows .low)))))
+    (n-most (sizes (s .pre)), (z .placed .labelled-256, (z .firsts-256, (z .steps-256, (z .manys-256, spans-labelled (z .placed .spans))))))
 
 returns : tie.Need-returns Inv-loop μ-loop
 returns c =
@@ -338,9 +324,9 @@ returns c =
 pub families-spec : {M : Type 1} → statement M
 families-spec =
     tie.close
-    (tie.spec Inv-loop μ-loop (search needs) cast-nexts (search needs) start-requires (λ c. search needs) (λ c. search needs) (λ c. search needs) spread-requires loop-holds read-requires
-    mul-l array-read-l mul-r array-read-r cast-x mul-x array-read-x cast-y mul-y array-read-y mul-t35 array-copy-out-t49 mul-t41 array-copy-out-t52
-    mul-t35-2 array-copy-out-t52-2 mul-t41-2 array-copy-out-t49-2 (search needs) leaves-requires (search needs) (search needs)
-    (λ c. search needs) (λ c. search needs) (λ c. search needs) (λ c. search needs) both-requires slice-aggregate-join slice-aggregate-join-2 slice-aggregate-join-3 join-requires
+    (tie.spec Inv-loop μ-loop (search needs) (search needs) start-requires (λ c. search needs) (λ c. search needs) (λ c. search needs) spread-requires loop-holds read-requires
+    mul-l array-read-l mul-r array-read-r cast-x mul-x array-read-x cast-y mul-y array-read-y mul-t33 array-copy-out-t47 mul-t39 array-copy-out-t50
+    mul-t33-2 array-copy-out-t50-2 mul-t39-2 array-copy-out-t47-2 (search needs) leaves-requires (search needs) (search needs)
+    (λ c. search needs) (λ c. search needs) (λ c. search needs) (λ c. search needs) both-requires slice-aggregate-join slice-aggregate-join-2 join-requires
     (λ c κs. search needs) cast-manys mul-manys array-write-manys add-k loop-less loop-again
     (λ c. search needs) (λ c. search needs) (λ c. search needs) (λ c. search needs) gather-requires returns)

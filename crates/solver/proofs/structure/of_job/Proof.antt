@@ -5,27 +5,24 @@ use mathlib.Core.List.{List}
 use Prim.Native.Nat.{ℕ, suc, _+_, _-_, _≤_, _<_}
 use native.Mathlib.Omega.{arith}
 use borrow.Author.Needs.{needs}
-use lib.ListN.{length, getD, set, replicate, getD-replicate}
+use lib.ListN.{length, getD, set}
 use Rattle.jobs.specs.Job.{Job, jobOf, equation}
 use Rattle.solver.specs.Labels.{Labelled, Merges, Labels}
 use Rattle.solver.specs.Structured.{Structured}
 use Rattle.solver.proofs.LawfulRows.{n-most, m-most, row-asked, left-below, right-below, different-variables}
-use Rattle.solver.specs.Rows.{Leads}
-use Rattle.solver.proofs.MergedRows.{InRows, rows-apart}
+use Rattle.solver.specs.Spans.{Leads}
+use Rattle.solver.proofs.SpannedLabels.{InSpans, spans-apart}
 use Rattle.solver.proofs.CodeFollowsModel.{labels-start, labels-le, labels-lead, labels-joined}
 use Rattle.solver.proofs.StructurePass.{Through, begins, more, degree-small, right-stays, onward}
 use Rattle.solver.proofs.structure.of_job.Statement.{statement}
 use Rattle.solver.proofs.structure.of_job.Tie as tie
 
 abbrev Inv-loop : tie.InvT-loop
-Inv-loop job n m labels₀ nexts₀ lasts₀ found₀ k₀ labels nexts lasts found k =
-    (k ≤ m) × (InRows labels nexts lasts n × Through (jobOf job) n k labels (found .degrees) (found .homes) (found .kinds))
+Inv-loop job n m labels₀ lasts₀ found₀ k₀ labels lasts found k =
+    (k ≤ m) × (InSpans labels lasts n × Through (jobOf job) n k labels (found .degrees) (found .homes) (found .kinds))
 
 abbrev μ-loop : tie.MeasureT-loop
-μ-loop job n m labels₀ nexts₀ lasts₀ found₀ k₀ labels nexts lasts found k = m - k
-
-cast-nexts : tie.Need-cast-nexts Inv-loop μ-loop
-cast-nexts c = record { fits = omega (arith, n-most (c .before .before .pre)) }
+μ-loop job n m labels₀ lasts₀ found₀ k₀ labels lasts found k = m - k
 
 loop-holds : tie.Need-loop-holds Inv-loop μ-loop
 loop-holds c =
@@ -34,11 +31,7 @@ loop-holds c =
     let labels = a .apart .result in (
       omega arith,
       (
-        record {
-          linked-256 = search needs;
-          ended-256 = search needs;
-          rows = rows-apart labels (replicate 256 (s .args .n)) (c .apart2 .result) (s .args .n) (n-most (s .pre)) (a .apart .ensures) (λ v h. getD-replicate 256 v (s .args .n) 0 (omega (arith, h, n-most (s .pre)))) (c .apart2 .ensures);
-        },
+        record { labelled-256 = search needs; ended-256 = search needs; spans = spans-apart labels (c .apart2 .result) (s .args .n) (n-most (s .pre)) (a .apart .ensures) (c .apart2 .ensures) },
         begins (jobOf (s .args .job .now)) (s .args .n) labels (search needs) (labels-start (jobOf (s .args .job .now)) (s .args .n) labels (n-most (s .pre)) (a .apart .ensures)),
       ),
     )
@@ -96,7 +89,7 @@ module _ (c : tie.After-read Inv-loop μ-loop) where
   abbrev r : ℕ
   r = getD labels (c .read .result .right) 0
 
-  placed : InRows labels (c .before .before .loop .nexts) (c .before .before .loop .lasts) n
+  placed : InSpans labels (c .before .before .loop .lasts) n
   placed = c .before .before .loop .inv .1 .0
 
   left-leads : Leads labels n l
@@ -184,20 +177,20 @@ element-write-found-4 c = omega (arith, right-256 (c .before .before .before))
 
 join-requires : tie.Need-join-requires Inv-loop μ-loop
 join-requires c κs =
-    let a = c .before .before .before .before .before .before in
+    let a = c .before .before .before .before .before in
     let z = placed a in
-    (n-most (s a .pre), (through a .long, (z .linked-256, (z .ended-256, (z .rows, (left-leads a, right-leads a))))))
+    (n-most (s a .pre), (z .labelled-256, (z .ended-256, (z .spans, (left-leads a, right-leads a)))))
 
 loop-again : tie.Need-loop-again Inv-loop μ-loop
 loop-again c =
-    let d = c .before .before .before in
-    let b = d .before .before .before .before .before .before in
+    let d = c .before .before in
+    let b = d .before .before .before .before .before in
     let a = b .before in
     let next : suc (k a) ≡ k a + 1 = omega arith in
     let labels = d .join .last .0 in (
       omega arith,
       (
-        record { linked-256 = search needs; ended-256 = search needs; rows = d .join .ensures .1 },
+        record { labelled-256 = search needs; ended-256 = search needs; spans = d .join .ensures .1 },
         onward (through a) (n-most (s a .pre)) (omega (arith, k-below a, m-most (s a .pre))) (a .read .result) (is a) (own-left a) (own-right a) (different a)
             labels (search needs) (subst (λ k. Labels (j a) k (n a) labels) next (joins a labels (d .join .ensures .0))) (b .kind .result) (b .kind .ensures),
       ),
@@ -214,7 +207,7 @@ returns c =
 pub of-job-spec : {M : Type 1} → statement M
 of-job-spec =
     tie.close
-    (tie.spec Inv-loop μ-loop (search needs) cast-nexts (search needs) loop-holds read-requires mul-l array-read-l mul-r array-read-r
+    (tie.spec Inv-loop μ-loop (search needs) (search needs) loop-holds read-requires mul-l array-read-l mul-r array-read-r
     (search needs) mul-found element-write-found cast-found mul-found-2 element-write-found-2 mul-found-3 element-copy-out-found add-found
     mul-found-4 element-write-found-3 mul-found-5 element-copy-out-found-2 add-found-2 mul-found-6 element-write-found-4
-    (λ c. search needs) (λ c. search needs) (λ c. search needs) join-requires (λ c. omega arith) (λ c. omega arith) loop-again returns)
+    (λ c. search needs) (λ c. search needs) join-requires (λ c. omega arith) (λ c. omega arith) loop-again returns)
