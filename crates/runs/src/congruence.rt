@@ -1,5 +1,7 @@
 //! The congruence u·i ≡ v (mod d).
 
+ghost use mathlib.Core.Path.{_≡_};
+ghost use lib.IntN.{pos};
 ghost use Rattle.ints.specs.Divides.{_∣ℤ_};
 ghost use Rattle.euclid.specs.Factor.{IsFactor};
 ghost use Rattle.runs.specs.Method.{InReach, AllSolutions, Solves};
@@ -20,7 +22,31 @@ pub enum Solutions {
 }
 
 impl Congruence {
+    // A run that a variable begins with has stride 1, and so have most that are met.
     pub(crate) fn solve(self) -> Solutions
+        requires { ⌜ InReach self ⌝ }
+        ensures { λ r. ⌜ Solves self r ⌝ }
+    {
+        if self.u == 1 {
+            Solutions::Every(self.class_of_value())
+        } else {
+            self.by_factor()
+        }
+    }
+
+    // With u = 1 the solutions are the numbers that are v modulo d.
+    fn class_of_value(self) -> Class
+        requires { ⌜ InReach self ⌝ }
+        requires { ⌜ self .u ≡ pos 1 ⌝ }
+        ensures { λ c. ⌜ AllSolutions self c ⌝ }
+    {
+        Class {
+            first: ints::remainder(self.v, self.d),
+            step: self.d,
+        }
+    }
+
+    fn by_factor(self) -> Solutions
         requires { ⌜ InReach self ⌝ }
         ensures { λ r. ⌜ Solves self r ⌝ }
     {
