@@ -1,4 +1,8 @@
-//! A line of output, collected so that it is written at once.
+//! A line of output.
+
+ghost use Prim.Native.Nat.{_≤_};
+use crate::page;
+use crate::page::Page;
 
 /// The longest is that of a variable: 75 bytes with its end, at three numbers of 11 bytes.
 pub struct Line {
@@ -15,12 +19,16 @@ pub(crate) fn start() -> Line {
 
 impl Line {
     // With a byte more; past the last place it is left out.
-    fn byte(self, x: u8) -> Line {
+    fn byte(self, x: u8) -> Line
+        ensures { λ r. ⌜ r .len ≤ 80 ⌝ }
+    {
         let mut line = self;
         let at = self.len;
         if at < 80 {
             line.bytes[at] = x;
             line.len = at + 1;
+        } else {
+            line.len = 80;
         }
         line
     }
@@ -48,17 +56,13 @@ impl Line {
         self.count(ints::size(x))
     }
 
-    /// Writes it, with its end.
-    pub(crate) fn end(self) {
+    /// Puts it on the page, with its end, and gives how many bytes the page has then.
+    pub(crate) fn end(self, page: &mut Page, used: usize) -> usize
+        requires { ⌜ used ≤ 16384 ⌝ }
+        ensures { λ r. ⌜ r ≤ 16384 ⌝ }
+    {
         let line = self.byte(b'\n');
         let bytes = line.bytes;
-        write(&bytes, line.len);
-    }
-}
-
-// The first bytes.
-fn write(b: &[u8], len: usize) {
-    if len <= b.len() {
-        print::text(&b[0..len]);
+        page::add(page, used, &bytes, line.len)
     }
 }
