@@ -33,7 +33,7 @@ use Rattle.families.proofs.ModelIsExact.{exact}
 use Rattle.solver.specs.declared.join.Indices.{Indices}
 use Rattle.solver.specs.Labels.{Labelled, Merges, Labels, Apart}
 use Rattle.solver.specs.Spans.{Leads}
-use Rattle.solver.specs.Fields.{runOf, gathered, Spreads}
+use Rattle.solver.specs.Fields.{runOf, gathered}
 use Rattle.solver.specs.Steps.{indicesBy, Reducible, BothReducible, BothReduce}
 
 -- the arrays have at each variable what the model has after k equations
@@ -42,7 +42,7 @@ pub record Follows (j : Job) (k : ℕ) (labels : List ℕ) (firsts steps : List 
   pub run : (i : ℕ) → i < length (j .variables) → gathered labels firsts steps manys i ≡ runAt (stateAfter j k) i
 
 -- a run by its fields
-same-run : {r r′ : Run} → r .first ≡ r′ .first → r .step ≡ r′ .step → r .many ≡ r′ .many → r ≡ r′
+pub same-run : {r r′ : Run} → r .first ≡ r′ .first → r .step ≡ r′ .step → r .many ≡ r′ .many → r ≡ r′
 same-run p q m = λ t. record { first = p t; step = q t; many = m t }
 
 -- ---- before any equation
@@ -59,12 +59,12 @@ module _ (j : Job) (f : LawfulJob j) where
       let v = f .each-variable i h in
       ap (λ s. runAt s i) begins-start ∙ run-at j i h ∙ began-is (variable j i .low) (variable j i .high) (v .low) (v .high)
 
-  pub follows-start : (labels : List ℕ) (runs : List Run) (firsts steps : List ℤ) (manys : List ℕ) → ((i : ℕ) → i < length (j .variables) → getD labels i 0 ≡ i) →
-      ((i : ℕ) → i < length (j .variables) → getD runs i empty ≡ meet full (interval (variable j i .low) (variable j i .high))) →
-      Spreads runs (length (j .variables)) firsts steps manys → Follows j 0 labels firsts steps manys
-  follows-start labels runs firsts steps manys g r p = record {
+  pub follows-start : (labels : List ℕ) (firsts steps : List ℤ) (manys : List ℕ) (begun : ℕ → Run) → ((i : ℕ) → i < length (j .variables) → getD labels i 0 ≡ i) →
+      ((i : ℕ) → i < length (j .variables) → begun i ≡ meet full (interval (variable j i .low) (variable j i .high))) →
+      ((i : ℕ) → i < length (j .variables) → runOf firsts steps (getD manys i 0) i ≡ begun i) → Follows j 0 labels firsts steps manys
+  follows-start labels firsts steps manys begun g r p = record {
     label = λ i h. g i h ∙ sym (start-label i h);
-    run = λ i h. same-run (p .first .at i h) (p .step .at i h) (ap (λ l. getD manys l 0) (g i h) ∙ p .many .at i h) ∙ r i h ∙ sym (start-run i h);
+    run = λ i h. ap (λ l. runOf firsts steps (getD manys l 0) i) (g i h) ∙ p i h ∙ r i h ∙ sym (start-run i h);
   }
 
 -- ---- the model's step

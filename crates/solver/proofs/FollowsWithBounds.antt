@@ -7,24 +7,22 @@ use lib.ListN.{length, getD}
 use lib.IntN.{ℤ}
 use Rattle.lists.specs.Table.{Tabulates}
 use Rattle.runs.specs.declared.Run.{Run}
-use Rattle.runs.specs.Run.{empty, full}
-use Rattle.runs.specs.Search.{meet}
+use Rattle.runs.specs.Run.{empty}
 use Rattle.jobs.specs.declared.Equation.{Equation}
 use Rattle.jobs.specs.declared.Bounds.{Bounds}
-use Rattle.jobs.specs.Job.{Job, jobOf, variable, equation, noEquation}
+use Rattle.jobs.specs.Job.{Job, jobOf, equation, noEquation}
 use Rattle.jobs.specs.Lawful.{LawfulJob}
 use Rattle.jobs.specs.Component.{lowest}
 use Rattle.jobs.specs.Family.{familyRun}
 use Rattle.jobs.specs.Bounds.{withBounds, BoundedBy}
 use Rattle.jobs.proofs.JobOf.{variables-of, equations-of}
 use Rattle.jobs.proofs.WithBounds.{same-length, same-equations, variable-with, lawful-with}
-use Rattle.families.specs.Model.{interval}
 use Rattle.solver.specs.Families.{Families}
-use Rattle.solver.specs.Fields.{gathered, Spreads}
-use Rattle.solver.specs.VariableArrays.{Begins}
+use Rattle.solver.specs.Fields.{gathered}
+use Rattle.solver.specs.VariableArrays.{begun, Begins}
 use Rattle.solver.specs.Labels.{Apart}
 use Rattle.solver.proofs.LawfulRows.{Sizes, n-most}
-use Rattle.solver.proofs.CodeFollowsModel.{Follows, At, follows-start as begins, follows-end as ends}
+use Rattle.solver.proofs.CodeFollowsModel.{Follows, At, same-run, follows-start as begins, follows-end as ends}
 
 module _ {s : List ℕ} {n m : ℕ} (z : Sizes s n m) (b : List Bounds) (o : BoundedBy b n) where
   abbrev job : Job
@@ -43,13 +41,12 @@ module _ {s : List ℕ} {n m : ℕ} (z : Sizes s n m) (b : List Bounds) (o : Bou
   lawful = lawful-with (jobOf s) b (z .0 .job) (subst (BoundedBy b) (sym vars) o)
 
   -- before any equation
-  pub follows-start : (labels : List ℕ) (runs : List Run) (firsts steps : List ℤ) (manys : List ℕ) → Apart labels → Begins b n runs → Spreads runs n firsts steps manys → Follows job 0 labels firsts steps manys
-  follows-start labels runs firsts steps manys a e p =
-      begins job lawful labels runs firsts steps manys
-      (λ i h. a .at i (omega (arith, n-is, n-most z))) (λ i h. at i (omega (arith, n-is))) (subst (λ n. Spreads runs n firsts steps manys) (sym n-is) p)
-    where
-      at : (i : ℕ) → i < n → getD runs i empty ≡ meet full (interval (variable job i .low) (variable job i .high))
-      at i h = e .at i h ∙ rw (variable-with (jobOf s) b i (omega (arith, vars))) refl
+  pub follows-start : (labels : List ℕ) (firsts steps : List ℤ) (manys : List ℕ) → Apart labels → Begins b n firsts steps manys → Follows job 0 labels firsts steps manys
+  follows-start labels firsts steps manys a e =
+      begins job lawful labels firsts steps manys (begun b)
+      (λ i h. a .at i (omega (arith, n-is, n-most z)))
+      (λ i h. rw (variable-with (jobOf s) b i (omega (arith, h, n-is, vars))) refl)
+      (λ i h. let c : i < n = omega (arith, h, n-is) in same-run (e .first .at i c) (e .step .at i c) (e .many .at i c))
 
   -- after all of them
   pub follows-end : (labels : List ℕ) (firsts steps : List ℤ) (manys : List ℕ) (runs : List Run) → Follows job m labels firsts steps manys →

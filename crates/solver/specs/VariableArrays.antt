@@ -5,7 +5,7 @@ use lib.ListN.{getD}
 use lib.IntN.{ℤ, pos}
 use Rattle.lists.specs.Table.{Tabulates}
 use Rattle.runs.specs.declared.Run.{Run}
-use Rattle.runs.specs.Run.{empty, full}
+use Rattle.runs.specs.Run.{full}
 use Rattle.runs.specs.Search.{meet}
 use Rattle.jobs.specs.Job.{Job, variable}
 use Rattle.jobs.specs.declared.Bounds.{Bounds}
@@ -18,6 +18,12 @@ BoundsOf j = Tabulates noBounds (λ i. record { low = variable j i .low; high = 
 abbrev pub WeightsOf : Job → ℕ → List ℤ → Type 0
 WeightsOf j = Tabulates (pos 0) (λ i. variable j i .weight)
 
--- the full range met with each variable's bounds
-abbrev pub Begins : List Bounds → ℕ → List Run → Type 0
-Begins bounds = Tabulates empty (λ i. meet full (interval (getD bounds i noBounds .low) (getD bounds i noBounds .high)))
+-- the full range met with each variable's bounds,
+abbrev pub begun : List Bounds → ℕ → Run
+begun bounds i = meet full (interval (getD bounds i noBounds .low) (getD bounds i noBounds .high))
+
+-- and its fields
+pub record Begins (bounds : List Bounds) (n : ℕ) (firsts steps : List ℤ) (manys : List ℕ) : Type 0 where
+  pub first : Tabulates (pos 0) (λ i. begun bounds i .first) n firsts
+  pub step : Tabulates (pos 0) (λ i. begun bounds i .step) n steps
+  pub many : Tabulates 0 (λ i. begun bounds i .many) n manys

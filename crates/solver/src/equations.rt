@@ -38,11 +38,10 @@ pub fn families(job: &[u8], bounds: [Bounds; 256], n: usize, m: usize) -> State
 {
     let mut labels = components::apart();
     let mut lasts = components::apart();
-    let runs = range::start(bounds, n);
     let mut firsts: [i64; 256] = [0; 256];
     let mut steps: [i64; 256] = [0; 256];
     let mut manys: [u32; 256] = [0; 256];
-    fields::spread(runs, &mut firsts, &mut steps, &mut manys, n);
+    range::start(bounds, &mut firsts, &mut steps, &mut manys, n);
     let mut k: usize = 0;
     while k < m {
         let e = Equation::read(job, n, k);

@@ -6,38 +6,11 @@ ghost use Prim.Native.Nat.{_≤_};
 ghost use lib.ListN.{length};
 ghost use Rattle.lists.specs.Table.{Tabulates};
 ghost use Rattle.solver.specs.Labels.{Labelled};
-ghost use Rattle.solver.specs.Fields.{Spreads, gathered};
+ghost use Rattle.solver.specs.Fields.{gathered};
 ghost use Rattle.runs.specs.Run.{empty};
 use runs::Run;
 
-// The runs of n variables, taken apart.
-pub(crate) fn spread(
-    runs: [Run; 256],
-    firsts: &mut [i64],
-    steps: &mut [i64],
-    manys: &mut [u32],
-    n: usize,
-)
-    requires { ⌜ n ≤ 256 ⌝ }
-    requires { ⌜ length (now firsts) ≡ 256 ⌝ }
-    requires { ⌜ length (now steps) ≡ 256 ⌝ }
-    requires { ⌜ length (now manys) ≡ 256 ⌝ }
-    ensures { λ _. ⌜ Spreads runs n (now (firsts .exit)) (now (steps .exit)) (now (manys .exit)) ⌝ }
-{
-    let mut i: usize = 0;
-    while i < n {
-        let run = runs[i];
-        let first = run.first;
-        let step = run.step;
-        let many = run.many;
-        firsts[i] = first;
-        steps[i] = step;
-        manys[i] = many;
-        i += 1;
-    }
-}
-
-// And put together: how many a variable's run has stands at the lowest variable of its component.
+// The runs of n variables, put together: how many a variable's run has stands at the lowest variable of its component.
 pub(crate) fn gather(
     labels: &[u16],
     firsts: &[i64],

@@ -2,6 +2,7 @@
 
 ghost use mathlib.Core.Path.{_≡_};
 ghost use Prim.Native.Nat.{_≤_};
+ghost use lib.ListN.{length};
 ghost use Rattle.families.specs.Model.{interval};
 ghost use Rattle.jobs.specs.Bounds.{Bounded, BoundedBy};
 ghost use Rattle.solver.specs.VariableArrays.{Begins};
@@ -30,22 +31,31 @@ fn interval(b: Bounds) -> Run
     }
 }
 
-// The full range, met with the bounds of each of n variables.
-pub(crate) fn start(bounds: [Bounds; 256], n: usize) -> [Run; 256]
+// The full range, met with the bounds of each of n variables, field by field.
+pub(crate) fn start(
+    bounds: [Bounds; 256],
+    firsts: &mut [i64],
+    steps: &mut [i64],
+    manys: &mut [u32],
+    n: usize,
+)
     requires { ⌜ n ≤ 256 ⌝ }
+    requires { ⌜ length (now firsts) ≡ 256 ⌝ }
+    requires { ⌜ length (now steps) ≡ 256 ⌝ }
+    requires { ⌜ length (now manys) ≡ 256 ⌝ }
     requires { ⌜ BoundedBy bounds n ⌝ }
-    ensures { λ r. ⌜ Begins bounds n r ⌝ }
+    ensures { λ _. ⌜ Begins bounds n (now (firsts .exit)) (now (steps .exit)) (now (manys .exit)) ⌝ }
 {
-    let mut runs: [Run; 256] = [Run {
-        first: 0,
-        step: 0,
-        many: 0,
-    }; 256];
     let mut i: usize = 0;
     while i < n {
         let b = bounds[i];
-        runs[i] = Run::full().meet(interval(b));
+        let run = Run::full().meet(interval(b));
+        let first = run.first;
+        let step = run.step;
+        let many = run.many;
+        firsts[i] = first;
+        steps[i] = step;
+        manys[i] = many;
         i += 1;
     }
-    runs
 }

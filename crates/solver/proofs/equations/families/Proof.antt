@@ -23,7 +23,7 @@ use Rattle.solver.specs.declared.equations.Kept.the-variants.{All, At as
 use Rattle.jobs.specs.declared.Bounds.{Bounds}
 use Rattle.jobs.specs.Bounds.{withBounds, BoundedBy}
 use Rattle.solver.specs.VariableArrays.{Begins}
-use Rattle.solver.specs.Fields.{gathered, Spreads}
+use Rattle.solver.specs.Fields.{gathered}
 use Rattle.solver.specs.Labels.{Labelled}
 use Rattle.solver.proofs.SpannedLabels.{InSpans, spans-apart, spans-labelled}
 use Rattle.solver.specs.Steps.{keptBy}
@@ -35,7 +35,7 @@ use Rattle.solver.proofs.equations.families.Tie as tie
 
 -- for whichever bounds the runs began with
 record Known (s : List ℕ) (n : ℕ) (firsts₀ steps₀ : List ℤ) (manys₀ : List ℕ) (k : ℕ) (labels : List ℕ) (firsts steps : List ℤ) (manys : List ℕ) : Type 0 where
-  follows : (b : List Bounds) (runs : List Run) → BoundedBy b n → Begins b n runs → Spreads runs n firsts₀ steps₀ manys₀ → Follows (withBounds (jobOf s) b) k labels firsts steps manys
+  follows : (b : List Bounds) → BoundedBy b n → Begins b n firsts₀ steps₀ manys₀ → Follows (withBounds (jobOf s) b) k labels firsts steps manys
 
 -- the arrays are as long as they were made, and the spans are those of the labels
 record Sound (labels lasts : List ℕ) (firsts steps : List ℤ) (manys : List ℕ) (n : ℕ) : Type 0 where
@@ -56,15 +56,11 @@ abbrev μ-loop : tie.MeasureT-loop
 μ-loop job n m labels₀ lasts₀ firsts₀ steps₀ manys₀ k₀ labels lasts firsts steps manys k = m - k
 
 start-requires : tie.Need-start-requires Inv-loop μ-loop
-start-requires c κs = let s = c .before .before .before in (n-most (sizes (s .pre)), s .pre .1 .1 .1)
-
-spread-requires : tie.Need-spread-requires Inv-loop μ-loop
-spread-requires c κs = let s = c .before .before .before .before .before .before .before in (n-most (sizes (s .pre)), (search needs, (search needs, search needs)))
+start-requires c κs = let s = c .before .before .before .before .before .before in (n-most (sizes (s .pre)), (search needs, (search needs, (search needs, s .pre .1 .1 .1))))
 
 loop-holds : tie.Need-loop-holds Inv-loop μ-loop
 loop-holds c =
-    let p = c .before .before .before in
-    let d = p .before .before .before .before .before in
+    let d = c .before .before .before .before .before .before .before in
     let a = d .before in
     let s = a .before .before in
     let x = s .args in
@@ -77,23 +73,20 @@ loop-holds c =
           steps-256 = search needs;
           manys-256 = search needs;
         },
-        record { follows = λ bounds runs o e r. follows-start z bounds o (a .apart .result) runs _ _ _ (a .apart .ensures) e r },
+        record { follows = λ bounds o e. follows-start z bounds o (a .apart .result) _ _ _ (a .apart .ensures) e },
       ),
     )
 
 read-requires : tie.Need-read-requires Inv-loop μ-loop
-read-requires c κs = row-asked (sizes (c .before .before .before .before .before .before .before .before .before .before .before .before .before .pre)) (c .before .loop .k) (omega arith)
+read-requires c κs = row-asked (sizes (c .before .before .before .before .before .before .before .before .before .before .before .before .pre)) (c .before .loop .k) (omega arith)
 
 -- with a row in hand
 module _ (c : tie.After-read Inv-loop μ-loop) where
   abbrev s : tie.Start Inv-loop μ-loop
-  s = c .before .before .before .before .before .before .before .before .before .before .before .before .before .before
+  s = c .before .before .before .before .before .before .before .before .before .before .before .before .before
 
-  abbrev spread : tie.After-spread Inv-loop μ-loop
-  spread = c .before .before .before .before .before .before
-
-  abbrev begun : List Run
-  begun = spread .before .before .before .before .start .result
+  abbrev begun : tie.After-start Inv-loop μ-loop
+  begun = c .before .before .before .before .before .before
 
   abbrev e : Equation
   e = c .read .result
@@ -129,14 +122,13 @@ module _ (c : tie.After-read Inv-loop μ-loop) where
   right-small = omega (arith, right-below (sizes (s .pre)) k k-below e (c .read .ensures), n-256)
 
   -- for any bounds with which the runs begin
-  at-any : (b : List Bounds) (runs : List Run) → BoundedBy b (s .args .n) → Begins b (s .args .n) runs →
-      Spreads runs (s .args .n) (spread .spread .last .1 .0) (spread .spread .last .1 .1 .0) (spread .spread .last .1 .1 .1 .0) →
+  at-any : (b : List Bounds) → BoundedBy b (s .args .n) → Begins b (s .args .n) (begun .start .last .1 .0) (begun .start .last .1 .1 .0) (begun .start .last .1 .1 .1 .0) →
       At (withBounds (jobOf (s .args .job .now)) b) (s .args .n) k labels firsts steps manys e
-  at-any b runs o h r = at-row (sizes (s .pre)) b o k-below (c .before .before .loop .inv .1 .1 .follows b runs o h r) (c .read .ensures)
+  at-any b o h = at-row (sizes (s .pre)) b o k-below (c .before .before .loop .inv .1 .1 .follows b o h) (c .read .ensures)
 
   -- and for those that came in
   at : At (withBounds (jobOf (s .args .job .now)) (s .args .bounds)) (s .args .n) k labels firsts steps manys e
-  at = at-any (s .args .bounds) begun (s .pre .1 .1 .1) (spread .before .before .before .before .start .ensures) (spread .spread .ensures)
+  at = at-any (s .args .bounds) (s .pre .1 .1 .1) (begun .start .ensures)
 
   left-256 : getD labels (e .left) 0 < 256
   left-256 = omega (arith, left-leads at .below, n-256)
@@ -174,36 +166,36 @@ mul-y c = record { fits = omega (arith, right-256 c) }
 array-read-y : tie.Need-array-read-y Inv-loop μ-loop
 array-read-y c = right-256 c
 
-mul-t33 : tie.Need-mul-t33 Inv-loop μ-loop
-mul-t33 c = record { fits = omega (arith, left-small c) }
+mul-t32 : tie.Need-mul-t32 Inv-loop μ-loop
+mul-t32 c = record { fits = omega (arith, left-small c) }
 
-array-copy-out-t47 : tie.Need-array-copy-out-t47 Inv-loop μ-loop
-array-copy-out-t47 c = left-small c
+array-copy-out-t46 : tie.Need-array-copy-out-t46 Inv-loop μ-loop
+array-copy-out-t46 c = left-small c
 
-mul-t39 : tie.Need-mul-t39 Inv-loop μ-loop
-mul-t39 c = record { fits = omega (arith, left-small (c .before)) }
+mul-t38 : tie.Need-mul-t38 Inv-loop μ-loop
+mul-t38 c = record { fits = omega (arith, left-small (c .before)) }
 
-array-copy-out-t50 : tie.Need-array-copy-out-t50 Inv-loop μ-loop
-array-copy-out-t50 c = left-small (c .before)
+array-copy-out-t49 : tie.Need-array-copy-out-t49 Inv-loop μ-loop
+array-copy-out-t49 c = left-small (c .before)
 
-mul-t33-2 : tie.Need-mul-t33-2 Inv-loop μ-loop
-mul-t33-2 c = record { fits = omega (arith, right-small (c .before .before)) }
+mul-t32-2 : tie.Need-mul-t32-2 Inv-loop μ-loop
+mul-t32-2 c = record { fits = omega (arith, right-small (c .before .before)) }
 
-array-copy-out-t50-2 : tie.Need-array-copy-out-t50-2 Inv-loop μ-loop
-array-copy-out-t50-2 c = right-small (c .before .before)
+array-copy-out-t49-2 : tie.Need-array-copy-out-t49-2 Inv-loop μ-loop
+array-copy-out-t49-2 c = right-small (c .before .before)
 
-mul-t39-2 : tie.Need-mul-t39-2 Inv-loop μ-loop
-mul-t39-2 c = record { fits = omega (arith, right-small (c .before .before .before)) }
+mul-t38-2 : tie.Need-mul-t38-2 Inv-loop μ-loop
+mul-t38-2 c = record { fits = omega (arith, right-small (c .before .before .before)) }
 
-array-copy-out-t47-2 : tie.Need-array-copy-out-t47-2 Inv-loop μ-loop
-array-copy-out-t47-2 c = right-small (c .before .before .before)
+array-copy-out-t46-2 : tie.Need-array-copy-out-t46-2 Inv-loop μ-loop
+array-copy-out-t46-2 c = right-small (c .before .before .before)
 
 -- a run made of numbers that locals hold
 held-run : (a b : ℤ) (many : ℕ) → SFits w64 a → SFits w64 b → _≡_ {A = Run} record { first = held a; step = held b; many = many } record { first = a; step = b; many = many }
 held-run a b many f t = ap₂ (λ a b. record { first = a; step = b; many = many }) (toZ-ofZ f) (toZ-ofZ t)
 
 -- with the two runs
-module _ (c : tie.After-t472 Inv-loop μ-loop) where
+module _ (c : tie.After-t462 Inv-loop μ-loop) where
   abbrev row : tie.After-read Inv-loop μ-loop
   row = c .before .before .before .before
 
@@ -214,10 +206,10 @@ module _ (c : tie.After-t472 Inv-loop μ-loop) where
   at-right = e row .right
 
   left-held : _≡_ {A = Run} record { first = held (getD (firsts row) at-left (pos 0)); step = held (getD (steps row) at-left (pos 0)); many = getD (manys row) (getD (labels row) at-left 0) 0 } (gathered (labels row) (firsts row) (steps row) (manys row) at-left)
-  left-held = held-run (getD (firsts row) at-left (pos 0)) (getD (steps row) at-left (pos 0)) _ record { sfits = c .before .before .before .t47 .given } record { sfits = c .before .before .t50 .given }
+  left-held = held-run (getD (firsts row) at-left (pos 0)) (getD (steps row) at-left (pos 0)) _ record { sfits = c .before .before .before .t46 .given } record { sfits = c .before .before .t49 .given }
 
   right-held : _≡_ {A = Run} record { first = held (getD (firsts row) at-right (pos 0)); step = held (getD (steps row) at-right (pos 0)); many = getD (manys row) (getD (labels row) at-right 0) 0 } (gathered (labels row) (firsts row) (steps row) (manys row) at-right)
-  right-held = held-run (getD (firsts row) at-right (pos 0)) (getD (steps row) at-right (pos 0)) _ record { sfits = c .before .t502 .given } record { sfits = c .t472 .given }
+  right-held = held-run (getD (firsts row) at-right (pos 0)) (getD (steps row) at-right (pos 0)) _ record { sfits = c .before .t492 .given } record { sfits = c .t462 .given }
 
 leaves-requires : tie.Need-leaves-requires Inv-loop μ-loop
 leaves-requires c κs =
@@ -226,7 +218,7 @@ leaves-requires c κs =
 
 -- what the equation leaves
 module _ (c : tie.After-leaves Inv-loop μ-loop) where
-  abbrev runs-read : tie.After-t472 Inv-loop μ-loop
+  abbrev runs-read : tie.After-t462 Inv-loop μ-loop
   runs-read = c .before .before
 
   kept-is : (x : Kept) → c .leaves .result ≡ x → keptBy x ≡ keeps (at (row runs-read))
@@ -279,13 +271,13 @@ loop-less c = omega (arith, k-below (row (runs-read (c .before))))
 -- the arrays are what was made of them
 onward : (c : tie.After-read Inv-loop μ-loop) {labels labels′ lasts lasts′ manys manys′ : List ℕ} {firsts firsts′ steps steps′ : List ℤ} →
     labels ≡ labels′ → lasts ≡ lasts′ → firsts ≡ firsts′ → steps ≡ steps′ → manys ≡ manys′ → Sound labels′ lasts′ firsts′ steps′ manys′ (s c .args .n) →
-    ((b : List Bounds) (runs : List Run) → BoundedBy b (s c .args .n) → Begins b (s c .args .n) runs →
-    Spreads runs (s c .args .n) (spread c .spread .last .1 .0) (spread c .spread .last .1 .1 .0) (spread c .spread .last .1 .1 .1 .0) → Follows (withBounds (jobOf (s c .args .job .now)) b) (suc (k c)) labels′ firsts′ steps′ manys′) →
+    ((b : List Bounds) → BoundedBy b (s c .args .n) → Begins b (s c .args .n) (begun c .start .last .1 .0) (begun c .start .last .1 .1 .0) (begun c .start .last .1 .1 .1 .0) →
+    Follows (withBounds (jobOf (s c .args .job .now)) b) (suc (k c)) labels′ firsts′ steps′ manys′) →
     Sound labels lasts firsts steps manys (s c .args .n)
-    × Known (s c .args .job .now) (s c .args .n) (spread c .spread .last .1 .0) (spread c .spread .last .1 .1 .0) (spread c .spread .last .1 .1 .1 .0) (k c + 1) labels firsts steps manys
+    × Known (s c .args .job .now) (s c .args .n) (begun c .start .last .1 .0) (begun c .start .last .1 .1 .0) (begun c .start .last .1 .1 .1 .0) (k c + 1) labels firsts steps manys
 onward c {labels} {labels′} {lasts} {lasts′} {manys} {manys′} {firsts} {firsts′} {steps} {steps′} p r u v w z f =
     let next : suc (k c) ≡ k c + 1 = omega arith in
-    rw (p, r, u, v, w) (z, record { follows = λ b runs o h e. subst (λ k. Follows (withBounds (jobOf (s c .args .job .now)) b) k labels′ firsts′ steps′ manys′) next (f b runs o h e) })
+    rw (p, r, u, v, w) (z, record { follows = λ b o h. subst (λ k. Follows (withBounds (jobOf (s c .args .job .now)) b) k labels′ firsts′ steps′ manys′) next (f b o h) })
 
 loop-again : tie.Need-loop-again Inv-loop μ-loop
 loop-again c =
@@ -294,10 +286,10 @@ loop-again c =
     let z = sound a in (
       omega arith,
       ⊎-elim
-          (λ w. onward a (w .2) (w .3) (w .4) (w .5) (w .6) z (λ b runs o h e. follows-same (at-any a b runs o h e) (kept-is v All (w .1 .given .1))))
+          (λ w. onward a (w .2) (w .3) (w .4) (w .5) (w .6) z (λ b o h. follows-same (at-any a b o h) (kept-is v All (w .1 .given .1))))
           (λ w. onward a (w .16) (w .17) (w .18) (w .19) (w .20)
           record { placed = record { labelled-256 = search needs; ended-256 = search needs; spans = w .12 .ensures .1 }; firsts-256 = search needs; steps-256 = search needs; manys-256 = length-set (manys a) (w .15 .result) (w .1 .given .0 .0 .left .many) ∙ z .manys-256 }
-          (λ b runs o h e. follows-reduced (at-any a b runs o h e) (w .1 .given .0 .0) (kept-is v (At-indices (w .1 .given .0 .0)) (w .1 .given .1)) (w .12 .last .0) (w .12 .ensures .0)
+          (λ b o h. follows-reduced (at-any a b o h) (w .1 .given .0 .0) (kept-is v (At-indices (w .1 .given .0 .0)) (w .1 .given .1)) (w .12 .last .0) (w .12 .ensures .0)
           (w .7 .last .1 .1 .0) (w .7 .last .1 .1 .1 .0) (w .15 .result) (w .7 .ensures) (w .15 .ensures) (z .manys-256) (n-256 a)))
           (c .match .came),
     )
@@ -305,28 +297,28 @@ loop-again c =
 gather-requires : tie.Need-gather-requires Inv-loop μ-loop
 gather-requires c κs =
     let l = c .before .before .before .before .before .loop in
-    let s = c .before .before .before .before .before .before .before .before .before .before .before .before .before .before .before .before .before in
+    let s = c .before .before .before .before .before .before .before .before .before .before .before .before .before .before .before .before in
     let z = l .inv .1 .0 in
     (n-most (sizes (s .pre)), (z .placed .labelled-256, (z .firsts-256, (z .steps-256, (z .manys-256, spans-labelled (z .placed .spans))))))
 
 returns : tie.Need-returns Inv-loop μ-loop
 returns c =
     let l = c .before .before .before .before .before .before .loop in
-    let p = c .before .before .before .before .before .before .before .before .before .before in
-    let s = p .before .before .before .before .before .before .before .before in
+    let a = c .before .before .before .before .before .before .before .before .before .before in
+    let s = a .before .before .before .before .before .before .before in
     let b = s .args .bounds in
     let o = s .pre .1 .1 .1 in
     let e : l .k ≡ s .args .m = omega arith in
     follows-end (sizes (s .pre)) b o (l .labels) (l .firsts) (l .steps) (l .manys) (c .gather .result)
-    (subst (λ k. Follows (withBounds (jobOf (s .args .job .now)) b) k (l .labels) (l .firsts) (l .steps) (l .manys)) e (l .inv .1 .1 .follows b (p .before .before .before .before .start .result) o (p .before .before .before .before .start .ensures) (p .spread .ensures)))
+    (subst (λ k. Follows (withBounds (jobOf (s .args .job .now)) b) k (l .labels) (l .firsts) (l .steps) (l .manys)) e (l .inv .1 .1 .follows b o (a .start .ensures)))
     (c .gather .ensures)
 
 pub families-spec : {M : Type 1} → statement M
 families-spec =
     tie.close
-    (tie.spec Inv-loop μ-loop (search needs) (search needs) start-requires (λ c. search needs) (λ c. search needs) (λ c. search needs) spread-requires loop-holds read-requires
-    mul-l array-read-l mul-r array-read-r cast-x mul-x array-read-x cast-y mul-y array-read-y mul-t33 array-copy-out-t47 mul-t39 array-copy-out-t50
-    mul-t33-2 array-copy-out-t50-2 mul-t39-2 array-copy-out-t47-2 (search needs) leaves-requires (search needs) (search needs)
+    (tie.spec Inv-loop μ-loop (search needs) (search needs) (λ c. search needs) (λ c. search needs) (λ c. search needs) start-requires loop-holds read-requires
+    mul-l array-read-l mul-r array-read-r cast-x mul-x array-read-x cast-y mul-y array-read-y mul-t32 array-copy-out-t46 mul-t38 array-copy-out-t49
+    mul-t32-2 array-copy-out-t49-2 mul-t38-2 array-copy-out-t46-2 (search needs) leaves-requires (search needs) (search needs)
     (λ c. search needs) (λ c. search needs) (λ c. search needs) (λ c. search needs) both-requires slice-aggregate-join slice-aggregate-join-2 join-requires
     (λ c κs. search needs) cast-manys mul-manys array-write-manys add-k loop-less loop-again
     (λ c. search needs) (λ c. search needs) (λ c. search needs) (λ c. search needs) gather-requires returns)
