@@ -14,7 +14,7 @@ use lib.Seq.{getD-set-same, getD-set-other}
 use borrow.Author.Tests.{eq-eqb, ne-eqb}
 use Rattle.runs.specs.declared.Equation.{Equation as Form}
 use Rattle.runs.specs.declared.Run.{Run}
-use Rattle.runs.specs.Run.{empty, full}
+use Rattle.runs.specs.Run.{full}
 use Rattle.runs.specs.Search.{meet}
 use Rattle.runs.specs.Workings.{CarryLimits}
 use Rattle.families.specs.FamilyRun.{FamilyRun}

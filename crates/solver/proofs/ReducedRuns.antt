@@ -10,12 +10,12 @@ use lib.ListN.{getD}
 use lib.IntN.{ℤ, pos}
 use Rattle.runs.specs.declared.Run.{Run}
 use Rattle.families.specs.FamilyRun.{FamilyRun}
-use Rattle.families.specs.Model.{through, runAfter}
+use Rattle.families.specs.Model.{through}
 use Rattle.families.proofs.Subfamily.{after-left, after-right, after-other}
 use Rattle.solver.specs.StateArrays.{labelIn}
 use Rattle.solver.specs.Fields.{runOf}
 use Rattle.solver.specs.declared.join.Indices.{Indices}
-use Rattle.solver.specs.Steps.{indicesBy, Reducible, partOf, Reduces, Stays, BothReducible, bothPart, BothReduce}
+use Rattle.solver.specs.Steps.{indicesBy, Reducible, partOf, Reduces, Stays, bothPart, BothReduce}
 
 -- ---- one component
 module _ (labels : List ℕ) (firsts steps : List ℤ) (g : ℕ) (kept : Run) where

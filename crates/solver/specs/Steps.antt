@@ -3,14 +3,16 @@ use mathlib.Core.Option.{Option, none, some}
 use mathlib.Core.Path.{_≡_}
 use mathlib.Core.Bool.{cond}
 use mathlib.Core.List.{List}
-use Prim.Native.Nat.{ℕ, _<_}
+use Prim.Native.Nat.{ℕ, _≤_, _<_}
 use lib.Dec.{eqb}
 use lib.IntN.{ℤ, pos}
+use lib.ListN.{length}
 use Rattle.runs.specs.declared.Run.{Run}
 use Rattle.families.specs.FamilyRun.{FamilyRun}
 use Rattle.families.specs.Model.{Indices as Pair, through, runAfter}
 use Rattle.lists.specs.Table.{Tabulates}
 use Rattle.solver.specs.StateArrays.{labelIn}
+use Rattle.solver.specs.Spans.{Spans}
 use Rattle.solver.specs.Fields.{runOf}
 use Rattle.solver.specs.declared.cycle.Remains.{Remains}
 use Rattle.solver.specs.declared.cycle.Remains.the-variants.{All, At}
@@ -28,6 +30,15 @@ indicesBy i = record { left = i .left; right = i .right }
 abbrev pub keptBy : Kept → Option Pair
 keptBy kept.All = none
 keptBy (kept.At i) = some (indicesBy i)
+
+-- the arrays of n variables' families, as long as they are made
+pub record Arrays (labels lasts : List ℕ) (firsts steps : List ℤ) (n : ℕ) : Type 0 where
+  pub small : n ≤ 256
+  pub labels-256 : length labels ≡ 256
+  pub lasts-256 : length lasts ≡ 256
+  pub firsts-256 : length firsts ≡ 256
+  pub steps-256 : length steps ≡ 256
+  pub spans : Spans labels lasts n
 
 -- what is asked of the runs of component g, of which the members at these indices are to stay
 pub record Reducible (labels : List ℕ) (firsts steps : List ℤ) (g : ℕ) (kept : Run) (many n : ℕ) : Type 0 where

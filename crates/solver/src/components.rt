@@ -6,7 +6,7 @@ ghost use Prim.Native.Nat.{_≤_, _<_, min, max};
 ghost use lib.Dec.{eqb};
 ghost use lib.ListN.{length};
 ghost use Rattle.lists.specs.Table.{Tabulates};
-ghost use Rattle.solver.specs.Labels.{Apart, Labelled, Lowest, Merges};
+ghost use Rattle.solver.specs.Labels.{Apart, Lowest, Merges};
 ghost use Rattle.solver.specs.Spans.{Leads, Between, Spans};
 ghost use Rattle.solver.specs.StateArrays.{labelIn};
 ghost use Rattle.families.specs.ModelFindings.{leadsBy, componentBy};

@@ -2,10 +2,8 @@
 
 ghost use mathlib.Core.Path.{_≡_};
 ghost use mathlib.Core.Bool.{true};
-ghost use Prim.Native.Nat.{_≤_};
-ghost use lib.ListN.{length};
-ghost use Rattle.solver.specs.Spans.{Leads, Spans};
-ghost use Rattle.solver.specs.Steps.{Stays, Reducible, Reduces, BothReducible, BothReduce};
+ghost use Rattle.solver.specs.Spans.{Leads};
+ghost use Rattle.solver.specs.Steps.{Arrays, Stays, Reducible, Reduces, BothReducible, BothReduce};
 use crate::components;
 use crate::join::Indices;
 use crate::parts;
@@ -24,12 +22,7 @@ pub(crate) fn both(
     y: u32,
     n: usize,
 )
-    requires { ⌜ n ≤ 256 ⌝ }
-    requires { ⌜ length (now lasts) ≡ 256 ⌝ }
-    requires { ⌜ length (now firsts) ≡ 256 ⌝ }
-    requires { ⌜ length (now steps) ≡ 256 ⌝ }
-    requires { ⌜ length (now labels) ≡ 256 ⌝ }
-    requires { ⌜ Spans (now labels) (now lasts) n ⌝ }
+    requires { ⌜ Arrays (now labels) (now lasts) (now firsts) (now steps) n ⌝ }
     requires { ⌜ Leads (now labels) n l ⌝ }
     requires { ⌜ Leads (now labels) n r ⌝ }
     requires { ⌜ BothReducible (now labels) (now firsts) (now steps) l r kept x y n ⌝ }
@@ -52,12 +45,7 @@ fn one(
     many: u32,
     n: usize,
 )
-    requires { ⌜ n ≤ 256 ⌝ }
-    requires { ⌜ length (now lasts) ≡ 256 ⌝ }
-    requires { ⌜ length (now firsts) ≡ 256 ⌝ }
-    requires { ⌜ length (now steps) ≡ 256 ⌝ }
-    requires { ⌜ length (now labels) ≡ 256 ⌝ }
-    requires { ⌜ Spans (now labels) (now lasts) n ⌝ }
+    requires { ⌜ Arrays (now labels) (now lasts) (now firsts) (now steps) n ⌝ }
     requires { ⌜ Leads (now labels) n g ⌝ }
     requires { ⌜ Reducible (now labels) (now firsts) (now steps) g kept many n ⌝ }
     ensures { λ _. ⌜ Reduces (now (labels .entry)) (now (firsts .entry)) (now (steps .entry)) g kept n (now (firsts .exit)) (now (steps .exit)) ⌝ }
@@ -97,12 +85,7 @@ fn walk(
     many: u32,
     n: usize,
 )
-    requires { ⌜ n ≤ 256 ⌝ }
-    requires { ⌜ length (now lasts) ≡ 256 ⌝ }
-    requires { ⌜ length (now firsts) ≡ 256 ⌝ }
-    requires { ⌜ length (now steps) ≡ 256 ⌝ }
-    requires { ⌜ length (now labels) ≡ 256 ⌝ }
-    requires { ⌜ Spans (now labels) (now lasts) n ⌝ }
+    requires { ⌜ Arrays (now labels) (now lasts) (now firsts) (now steps) n ⌝ }
     requires { ⌜ Leads (now labels) n g ⌝ }
     requires { ⌜ Reducible (now labels) (now firsts) (now steps) g kept many n ⌝ }
     ensures { λ _. ⌜ Reduces (now (labels .entry)) (now (firsts .entry)) (now (steps .entry)) g kept n (now (firsts .exit)) (now (steps .exit)) ⌝ }

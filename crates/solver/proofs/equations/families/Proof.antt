@@ -1,11 +1,11 @@
 -- `families` meets its contract: equation by equation, the arrays follow the model.
-use mathlib.Core.Path.{_≡_, refl, sym, _∙_, ap, ap₂, subst}
+use mathlib.Core.Path.{_≡_, sym, _∙_, ap, ap₂, subst}
 use mathlib.Core.Logic.{⊎-elim}
 use mathlib.Core.List.{List}
 use Prim.Native.Nat.{ℕ, suc, _+_, _-_, _≤_, _<_}
 use native.Mathlib.Omega.{arith}
 use borrow.Author.Needs.{needs}
-use lib.ListN.{length, getD, set, replicate, getD-replicate, length-set}
+use lib.ListN.{length, getD, length-set}
 use lib.IntN.{ℤ, pos}
 use mir.Syntax.{w64}
 use mir.Val.{SFits}
@@ -24,11 +24,10 @@ use Rattle.jobs.specs.declared.Bounds.{Bounds}
 use Rattle.jobs.specs.Bounds.{withBounds, BoundedBy}
 use Rattle.solver.specs.VariableArrays.{Begins}
 use Rattle.solver.specs.Fields.{gathered}
-use Rattle.solver.specs.Labels.{Labelled}
-use Rattle.solver.proofs.SpannedLabels.{InSpans, spans-apart, spans-labelled}
-use Rattle.solver.specs.Steps.{keptBy}
+use Rattle.solver.proofs.SpannedLabels.{spans-apart, spans-labelled}
+use Rattle.solver.specs.Steps.{keptBy, Arrays}
 use Rattle.solver.proofs.LawfulRows.{Sizes, n-most, m-most, row-asked, left-below, right-below}
-use Rattle.solver.proofs.CodeFollowsModel.{Follows, At, limits, left-family, right-family, labelled, left-leads, right-leads, keeps, follows-same, reducible, follows-reduced}
+use Rattle.solver.proofs.CodeFollowsModel.{Follows, At, limits, left-family, right-family, left-leads, right-leads, keeps, follows-same, reducible, follows-reduced}
 use Rattle.solver.proofs.FollowsWithBounds.{follows-start, follows-end, at-row}
 use Rattle.solver.proofs.equations.families.Statement.{statement}
 use Rattle.solver.proofs.equations.families.Tie as tie
@@ -37,11 +36,9 @@ use Rattle.solver.proofs.equations.families.Tie as tie
 record Known (s : List ℕ) (n : ℕ) (firsts₀ steps₀ : List ℤ) (manys₀ : List ℕ) (k : ℕ) (labels : List ℕ) (firsts steps : List ℤ) (manys : List ℕ) : Type 0 where
   follows : (b : List Bounds) → BoundedBy b n → Begins b n firsts₀ steps₀ manys₀ → Follows (withBounds (jobOf s) b) k labels firsts steps manys
 
--- the arrays are as long as they were made, and the spans are those of the labels
+-- the arrays are as they are asked for
 record Sound (labels lasts : List ℕ) (firsts steps : List ℤ) (manys : List ℕ) (n : ℕ) : Type 0 where
-  placed : InSpans labels lasts n
-  firsts-256 : length firsts ≡ 256
-  steps-256 : length steps ≡ 256
+  arrays : Arrays labels lasts firsts steps n
   manys-256 : length manys ≡ 256
 
 -- the first three of what is asked
@@ -68,9 +65,14 @@ loop-holds c =
       omega arith,
       (
         record {
-          placed = record { labelled-256 = search needs; ended-256 = search needs; spans = spans-apart (a .apart .result) (d .apart2 .result) (x .n) (n-most z) (a .apart .ensures) (d .apart2 .ensures) };
-          firsts-256 = search needs;
-          steps-256 = search needs;
+          arrays = record {
+            small = n-most z;
+            labels-256 = search needs;
+            lasts-256 = search needs;
+            firsts-256 = search needs;
+            steps-256 = search needs;
+            spans = spans-apart (a .apart .result) (d .apart2 .result) (x .n) (n-most z) (a .apart .ensures) (d .apart2 .ensures);
+          };
           manys-256 = search needs;
         },
         record { follows = λ bounds o e. follows-start z bounds o (a .apart .result) _ _ _ (a .apart .ensures) e },
@@ -234,20 +236,20 @@ both-requires c κs =
     let a = at r in
     let z = sound r in
     let i = t .kept .given .0 .0 in
-    (n-256 r, (z .placed .ended-256, (z .firsts-256, (z .steps-256, (z .placed .labelled-256, (z .placed .spans, (left-leads a, (right-leads a, reducible a i (kept-is v (At-indices i) (t .kept .given .1))))))))))
+    (z .arrays, (left-leads a, (right-leads a, reducible a i (kept-is v (At-indices i) (t .kept .given .1)))))
 
 slice-aggregate-join : tie.Need-slice-aggregate-join Inv-loop μ-loop
-slice-aggregate-join c = sym (sound (c .before .before .before .before .before .before .before .before .before .before .before .before .before .before .before .before .before) .placed .labelled-256)
+slice-aggregate-join c = sym (sound (c .before .before .before .before .before .before .before .before .before .before .before .before .before .before .before .before .before) .arrays .labels-256)
 
 slice-aggregate-join-2 : tie.Need-slice-aggregate-join-2 Inv-loop μ-loop
-slice-aggregate-join-2 c = sym (sound (c .before .before .before .before .before .before .before .before .before .before .before .before .before .before .before .before .before .before) .placed .ended-256)
+slice-aggregate-join-2 c = sym (sound (c .before .before .before .before .before .before .before .before .before .before .before .before .before .before .before .before .before .before) .arrays .lasts-256)
 
 join-requires : tie.Need-join-requires Inv-loop μ-loop
 join-requires c κs =
     let r = c .before .before .before .before .before .before .before .before .before .before .before .before .before .before .before .before .before .before in
     let a = at r in
     let z = sound r in
-    (n-256 r, (z .placed .labelled-256, (z .placed .ended-256, (z .placed .spans, (left-leads a, right-leads a)))))
+    (n-256 r, (z .arrays .labels-256, (z .arrays .lasts-256, (z .arrays .spans, (left-leads a, right-leads a)))))
 
 -- the lowest variable of both
 low-256 : (c : tie.After-lower Inv-loop μ-loop) → c .lower .result < 256
@@ -288,7 +290,7 @@ loop-again c =
       ⊎-elim
           (λ w. onward a (w .2) (w .3) (w .4) (w .5) (w .6) z (λ b o h. follows-same (at-any a b o h) (kept-is v All (w .1 .given .1))))
           (λ w. onward a (w .16) (w .17) (w .18) (w .19) (w .20)
-          record { placed = record { labelled-256 = search needs; ended-256 = search needs; spans = w .12 .ensures .1 }; firsts-256 = search needs; steps-256 = search needs; manys-256 = length-set (manys a) (w .15 .result) (w .1 .given .0 .0 .left .many) ∙ z .manys-256 }
+          record { arrays = record { small = n-256 a; labels-256 = search needs; lasts-256 = search needs; firsts-256 = search needs; steps-256 = search needs; spans = w .12 .ensures .1 }; manys-256 = length-set (manys a) (w .15 .result) (w .1 .given .0 .0 .left .many) ∙ z .manys-256 }
           (λ b o h. follows-reduced (at-any a b o h) (w .1 .given .0 .0) (kept-is v (At-indices (w .1 .given .0 .0)) (w .1 .given .1)) (w .12 .last .0) (w .12 .ensures .0)
           (w .7 .last .1 .1 .0) (w .7 .last .1 .1 .1 .0) (w .15 .result) (w .7 .ensures) (w .15 .ensures) (z .manys-256) (n-256 a)))
           (c .match .came),
@@ -299,7 +301,7 @@ gather-requires c κs =
     let l = c .before .before .before .before .before .loop in
     let s = c .before .before .before .before .before .before .before .before .before .before .before .before .before .before .before .before in
     let z = l .inv .1 .0 in
-    (n-most (sizes (s .pre)), (z .placed .labelled-256, (z .firsts-256, (z .steps-256, (z .manys-256, spans-labelled (z .placed .spans))))))
+    (n-most (sizes (s .pre)), (z .arrays .labels-256, (z .arrays .firsts-256, (z .arrays .steps-256, (z .manys-256, spans-labelled (z .arrays .spans))))))
 
 returns : tie.Need-returns Inv-loop μ-loop
 returns c =

@@ -8,9 +8,7 @@ use Rattle.solver.proofs.reduce.both.Statement.{statement}
 use Rattle.solver.proofs.reduce.both.Tie as tie
 
 one-requires : tie.Need-one-requires
-one-requires c κs =
-    let (n, (a, (b, (d, (low, (linked, (left, (right, r)))))))) = c .before .before .before .before .pre in
-    (n, (a, (b, (d, (low, (linked, (left, r .left)))))))
+one-requires c κs = let (a, (left, (right, r))) = c .before .before .before .before .pre in (a, (left, r .left))
 
 -- when the first is done, and the components are two
 module _ (c : tie.After-one) where
@@ -29,9 +27,11 @@ one-requires-2 c κs =
     let j = t .before in
     let o = j .before .before .before in
     let x = s o .args in
-    let (n, (a, (b, (d, (low, (linked, (left, (right, r)))))))) = s o .pre in
-    let e = other-label (x .l) (x .r) (j .joins .ensures) (t .if1 .taken) in
-    (n, (a, (search needs, (search needs, (low, (linked, (right, still-reducible (x .labels .now) (x .firsts .now) (x .steps .now) (x .l) (x .r) (x .kept) (x .n) (first o) (step o) (o .one .ensures) e (x .y) (r .right))))))))
+    let (a, (left, (right, r))) = s o .pre in
+    let e = other-label (x .l) (x .r) (j .joins .ensures) (t .if1 .taken) in (
+      record { small = a .small; labels-256 = a .labels-256; lasts-256 = a .lasts-256; firsts-256 = search needs; steps-256 = search needs; spans = a .spans },
+      (right, still-reducible (x .labels .now) (x .firsts .now) (x .steps .now) (x .l) (x .r) (x .kept) (x .n) (first o) (step o) (o .one .ensures) e (x .y) (r .right)),
+    )
 
 returns : tie.Need-returns
 returns c =

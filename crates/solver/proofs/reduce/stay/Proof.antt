@@ -1,15 +1,14 @@
 -- `stay` meets its contract: where there is no member, or one that is kept, or all from the first on, none moves.
-use mathlib.Core.Path.{_≡_, refl, sym, _∙_, ap}
+use mathlib.Core.Path.{_≡_, sym, _∙_, ap}
 use mathlib.Core.Logic.{_≢_}
 use mathlib.Core.Bool.{true, false, false≢true}
 use Prim.Native.Nat.{ℕ}
 use native.Mathlib.Decide.{ℕ-discrete}
-use lib.Dec.{eqb}
 use borrow.Author.Tests.{eqb-true, eq-eqb, ne-eqb}
 use mir.Syntax.{w64}
 use mir.Val.{ofZ}
 use mir.Facts.{sfits-lit}
-use Rattle.ints.proofs.{pos, _+ℤ_, _*ℤ_, [], _∷_, arith, lin, lin₀, _&_, facts}
+use Rattle.ints.proofs.{pos, _+ℤ_, _*ℤ_, [], _∷_, arith, lin, _&_, facts}
 use Rattle.ints.proofs.Signed.{bits-equal}
 use Rattle.runs.specs.declared.Run.{Run}
 use Rattle.families.specs.FamilyRun.{FamilyRun}

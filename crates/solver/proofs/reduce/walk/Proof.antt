@@ -2,12 +2,10 @@
 use mathlib.Core.Path.{_≡_, sym, _∙_, ap, ap₂, subst}
 use mathlib.Core.Logic.{_≢_, ⊎-elim}
 use mathlib.Core.List.{List}
-use Prim.Native.Nat.{ℕ, _+_, _-_, _≤_, _<_}
+use Prim.Native.Nat.{ℕ, _-_, _≤_, _<_}
 use native.Mathlib.Omega.{arith}
-use borrow.Author.Needs.{needs}
 use lib.ListN.{length, getD}
 use lib.IntN.{ℤ, pos}
-use mir.Syntax.{w64}
 use mir.Facts.{toZ-ofZ}
 use Rattle.ints.proofs.Signed.{held}
 use Rattle.runs.specs.declared.Run.{Run}
@@ -39,19 +37,19 @@ abbrev μ-loop : tie.MeasureT-loop
 -- what was asked
 module _ (s : tie.Start Inv-loop μ-loop) where
   small : s .args .n ≤ 256
-  small = s .pre .0
+  small = s .pre .0 .small
 
   wide : length (s .args .labels .now) ≡ 256
-  wide = s .pre .1 .1 .1 .1 .0
+  wide = s .pre .0 .labels-256
 
   spans : Spans (s .args .labels .now) (s .args .lasts .now) (s .args .n)
-  spans = s .pre .1 .1 .1 .1 .1 .0
+  spans = s .pre .0 .spans
 
   leads : Leads (s .args .labels .now) (s .args .n) (s .args .g)
-  leads = s .pre .1 .1 .1 .1 .1 .1 .0
+  leads = s .pre .1 .0
 
   reducible : Reducible (s .args .labels .now) (s .args .firsts .now) (s .args .steps .now) (s .args .g) (s .args .kept) (s .args .many) (s .args .n)
-  reducible = s .pre .1 .1 .1 .1 .1 .1 .1
+  reducible = s .pre .1 .1
 
   abbrev last : ℕ
   last = getD (s .args .lasts .now) (s .args .g) 0
@@ -78,7 +76,7 @@ mul-end : tie.Need-mul-end Inv-loop μ-loop
 mul-end c = let s = c .before .before in record { fits = omega (arith, leads s .below, small s) }
 
 shared-slice-read-end : tie.Need-shared-slice-read-end Inv-loop μ-loop
-shared-slice-read-end c = let s = c .before .before .before in omega (arith, leads s .below, small s, s .pre .1 .0)
+shared-slice-read-end c = let s = c .before .before .before in omega (arith, leads s .below, small s, s .pre .0 .lasts-256)
 
 cast-end : tie.Need-cast-end Inv-loop μ-loop
 cast-end c = let s = c .before .before .before in record { fits = omega (arith, last-below s, small s) }
@@ -92,8 +90,8 @@ loop-holds c =
     let x = s .args in (
       omega (arith, first-last s),
       (
-        begin (pos 0) (firstAfter (x .labels .now) (x .firsts .now) (x .steps .now) (x .g) (x .kept)) (x .firsts .now) (x .g) (s .pre .1 .1 .0) (λ v h. stays s v (before s v h) .0),
-        begin (pos 0) (stepAfter (x .labels .now) (x .firsts .now) (x .steps .now) (x .g) (x .kept)) (x .steps .now) (x .g) (s .pre .1 .1 .1 .0) (λ v h. stays s v (before s v h) .1),
+        begin (pos 0) (firstAfter (x .labels .now) (x .firsts .now) (x .steps .now) (x .g) (x .kept)) (x .firsts .now) (x .g) (s .pre .0 .firsts-256) (λ v h. stays s v (before s v h) .0),
+        begin (pos 0) (stepAfter (x .labels .now) (x .firsts .now) (x .steps .now) (x .g) (x .kept)) (x .steps .now) (x .g) (s .pre .0 .steps-256) (λ v h. stays s v (before s v h) .1),
       ),
     )
 
@@ -194,10 +192,10 @@ loop-again c =
     )
 
 same-length : tie.Need-same-length Inv-loop μ-loop
-same-length c = c .before .loop .inv .1 .0 .behind .long ∙ sym (c .before .before .before .before .before .pre .1 .1 .0)
+same-length c = c .before .loop .inv .1 .0 .behind .long ∙ sym (c .before .before .before .before .before .pre .0 .firsts-256)
 
 same-length-2 : tie.Need-same-length-2 Inv-loop μ-loop
-same-length-2 c = c .before .loop .inv .1 .1 .behind .long ∙ sym (c .before .before .before .before .before .pre .1 .1 .1 .0)
+same-length-2 c = c .before .loop .inv .1 .1 .behind .long ∙ sym (c .before .before .before .before .before .pre .0 .steps-256)
 
 returns : tie.Need-returns Inv-loop μ-loop
 returns c =

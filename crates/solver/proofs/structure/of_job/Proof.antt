@@ -1,19 +1,18 @@
 -- `of_job` meets its contract: equation by equation, what is found is what the definitions say.
-use mathlib.Core.Path.{_≡_, refl, sym, _∙_, ap, subst}
+use mathlib.Core.Path.{_≡_, refl, sym, subst}
 use mathlib.Core.Logic.{_≢_}
 use mathlib.Core.List.{List}
 use Prim.Native.Nat.{ℕ, suc, _+_, _-_, _≤_, _<_}
 use native.Mathlib.Omega.{arith}
 use borrow.Author.Needs.{needs}
-use lib.ListN.{length, getD, set}
+use lib.ListN.{getD, set}
 use Rattle.jobs.specs.Job.{Job, jobOf, equation}
 use Rattle.solver.specs.Labels.{Labelled, Merges, Labels}
-use Rattle.solver.specs.Structured.{Structured}
 use Rattle.solver.proofs.LawfulRows.{n-most, m-most, row-asked, left-below, right-below, different-variables}
 use Rattle.solver.specs.Spans.{Leads}
 use Rattle.solver.proofs.SpannedLabels.{InSpans, spans-apart}
 use Rattle.solver.proofs.CodeFollowsModel.{labels-start, labels-le, labels-lead, labels-joined}
-use Rattle.solver.proofs.StructurePass.{Through, begins, more, degree-small, right-stays, onward}
+use Rattle.solver.proofs.StructurePass.{Through, begins, degree-small, right-stays, onward}
 use Rattle.solver.proofs.structure.of_job.Statement.{statement}
 use Rattle.solver.proofs.structure.of_job.Tie as tie
 
