@@ -1,0 +1,139 @@
+//! The archive and the plain program on the same calls: outcome, and the whole area byte for byte.
+
+use std::io::{self, Write};
+
+use crate::archive::{self, Outcome};
+use crate::job::{self, MOST_COUNTS, MOST_EQUATIONS};
+use crate::made::Call;
+use crate::plain;
+use crate::progress::Progress;
+use crate::sheet::{self, Sheet};
+
+/// Compare on so many jobs, up to the first difference; whether all is well. The last line says what was done.
+pub fn agree(out: &mut impl Write, seed: u64, jobs: u64, first: u64) -> io::Result<bool> {
+    let mut tally = Tally::default();
+    let mut progress = Progress::new("jobs compared", jobs);
+    for number in first..first.saturating_add(jobs) {
+        let call = Call::new(seed, number);
+        match compared(&call.job, &call.area) {
+            Ok((outcome, area)) => tally.add(&call.job, &outcome, &area),
+            Err(found) => {
+                writeln!(out, "bench: seed {seed}, job {number} DIFFERS; to run it again: bench agree {seed} 1 {number}")?;
+                found.iter().try_for_each(|line| writeln!(out, "bench: {line}"))?;
+                return Ok(false);
+            }
+        }
+        progress.done(number - first + 1);
+    }
+    tally.report(out, seed, jobs)
+}
+
+/// What both give, or in words what differs.
+pub fn compared(job: &[u8], area: &[u8]) -> Result<(Outcome, Vec<u8>), Vec<String>> {
+    let (mut ours, mut plain) = (area.to_vec(), area.to_vec());
+    let given = archive::plan(job, &mut ours);
+    let wanted = plain::plan(job, &mut plain).fields();
+    let mut found = Vec::new();
+    if given != wanted {
+        found.push(format!("outcome: the archive gives {}, the plain program {}", words(&given), words(&wanted)));
+    }
+    let different = || (0..area.len()).filter(|&at| ours[at] != plain[at]);
+    if let Some(at) = different().next() {
+        let place = place(job, at);
+        let (x, y, many) = (ours[at], plain[at], different().count());
+        found
+            .push(format!("area: byte {at} ({place}) is {x} by the archive, {y} by the plain program; {many} bytes differ"));
+    }
+    if found.is_empty() {
+        Ok((given, ours))
+    } else {
+        Err(found)
+    }
+}
+
+fn words(outcome: &Outcome) -> String {
+    match *outcome {
+        Outcome { kind: 1, count: 0, reason: 0, row: 0, worth } => format!("planned, worth {worth}"),
+        Outcome { kind: 2, count, reason: 0, row: 0, worth: 0 } => format!("no fit at count {count}"),
+        Outcome { kind: 3, count: 0, reason, row, worth: 0 } => format!("refused {reason} row {row}"),
+        odd => format!("{odd:?}"),
+    }
+}
+
+/// What the sheet has at that byte of the area.
+fn place(job: &[u8], at: usize) -> String {
+    let n = job::read(job).map_or(0, |job| job.counts.len());
+    let row = at.saturating_sub(sheet::HEADER) / sheet::ROW;
+    match at {
+        0..sheet::HEADER => "header".to_string(),
+        _ if row < n => format!("row of count {row}"),
+        _ => format!("row of group {}", row - n),
+    }
+}
+
+/// How often each kind of job was there, so that an agreement on nothing does not pass.
+#[derive(Default)]
+struct Tally {
+    planned: u64,
+    no_fit: u64,
+    /// by reason, from 1
+    refused: [u64; 8],
+    /// planned, with a tied group of several fits; of several with equal worth; of one fit; and as a full frame
+    several: u64,
+    equal: u64,
+    one: u64,
+    full: u64,
+}
+
+impl Tally {
+    fn add(&mut self, job: &[u8], outcome: &Outcome, area: &[u8]) {
+        match outcome.kind {
+            1 => self.add_planned(job, &Sheet::read(area)),
+            2 => self.no_fit += 1,
+            _ => self.refused[outcome.reason as usize - 1] += 1,
+        }
+    }
+
+    fn add_planned(&mut self, job: &[u8], sheet: &Sheet) {
+        let has = |test: &dyn Fn(u32, i64) -> bool| {
+            let rows = sheet.groups.iter().enumerate();
+            u64::from(rows.filter(|(_, row)| test(row.fits, row.gain)).any(|(group, _)| sheet.size(group) > 1))
+        };
+        self.planned += 1;
+        self.several += has(&|fits, _| fits > 1);
+        self.equal += has(&|fits, gain| fits > 1 && gain == 0);
+        self.one += has(&|fits, _| fits == 1);
+        self.full += u64::from(job.len() == job::length(MOST_COUNTS, MOST_EQUATIONS));
+    }
+
+    /// The kinds that never were there. A short run may lack some.
+    fn missing(&self, jobs: u64) -> Vec<String> {
+        if jobs < 1_000 {
+            return Vec::new();
+        }
+        let outcomes = [("planned", self.planned), ("no fit", self.no_fit)];
+        let kinds =
+            [("several fits", self.several), ("equal worth", self.equal), ("one fit", self.one), ("full frame", self.full)];
+        let named = outcomes.into_iter().chain(kinds).map(|(name, times)| (name.to_string(), times));
+        let refused = (1..).zip(self.refused).map(|(reason, times)| (format!("refused for {reason}"), times));
+        named.chain(refused).filter(|(_, times)| *times == 0).map(|(name, _)| name).collect()
+    }
+
+    fn report(&self, out: &mut impl Write, seed: u64, jobs: u64) -> io::Result<bool> {
+        let refused: Vec<String> = (1..).zip(self.refused).map(|(reason, times)| format!("for {reason}: {times}")).collect();
+        writeln!(out, "bench: planned {}, no fit {}, refused {}", self.planned, self.no_fit, refused.join(", "))?;
+        writeln!(
+            out,
+            "bench: planned with a tied group of several fits {}, of these of equal worth {}; of one fit {}; full frames {}",
+            self.several, self.equal, self.one, self.full
+        )?;
+        let missing = self.missing(jobs);
+        let verdict =
+            if missing.is_empty() { String::new() } else { format!(", but FAILED: never: {}", missing.join(", ")) };
+        writeln!(
+            out,
+            "bench: seed {seed}, {jobs} jobs, the archive and the plain program agree in outcome and area{verdict}"
+        )?;
+        Ok(missing.is_empty())
+    }
+}
