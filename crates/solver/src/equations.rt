@@ -38,6 +38,7 @@ pub fn families(job: &[u8], bounds: [Bounds; 256], n: usize, m: usize) -> State
 {
     let mut labels = components::apart();
     let mut lasts = components::apart();
+    // the runs field by field; how many one has stands at the lowest variable of its component
     let mut firsts: [i64; 256] = [0; 256];
     let mut steps: [i64; 256] = [0; 256];
     let mut manys: [u32; 256] = [0; 256];

@@ -1,5 +1,5 @@
-//! The runs of all variables field by field. An array of numbers can be lent and written in place; an array of structs is copied whenever
-//! it is passed on, which inside the loop over the equations would cost more than all its sums.
+//! The runs of all variables field by field, as the loop over the equations keeps them: an array of numbers can be lent and written in
+//! place, and an array of structs is copied whenever it is passed on, which would cost more than all the loop's sums.
 
 ghost use mathlib.Core.Path.{_≡_};
 ghost use Prim.Native.Nat.{_≤_};

@@ -25,7 +25,7 @@ mod reduce;
 // the equations, one after the other
 pub mod equations;
 
-/// What is known while the equations are taken in, for each variable by its number.
+/// What is known when the equations are taken in, for each variable by its number.
 ///
 /// `labels[i]` is the lowest variable of the component of variable i. `runs[i]` is what variable i can be: at k its number is
 /// `first + step·k`, for each k below `many`. The k and the `many` are the component's, so that all its variables move together;
