@@ -31,10 +31,12 @@ last-stride f s zero h = absurd (omega arith)
 last-stride f s (suc zero) h = lin₀ (f ∷ s ∷ []) (search facts depth 20) (omega arith)
 last-stride f s (suc (suc n)) h = refl
 
+-- by the places, with the stride in the step's place
+pub in-places : {r : Run} → OneForm r → 1 ≤ r .many → (x : ℤ) → InRun r x ↔ Along (r .first) (stride r) (pos (r .many) -ℤ pos 1) x
+in-places {r} o h x = Iff·trans (in-along r x) (along-stride (r .first) (r .step) x (r .many) (o .one) h)
+
 pub in-span : {r : Run} → OneForm r → 1 ≤ r .many → (x : ℤ) → InRun r x ↔ (Congruent (stride r) x (r .first) × InInterval (span r) x)
-in-span {r} o h x =
-    Iff·trans (in-along r x) (Iff·trans (along-stride (r .first) (r .step) x (r .many) (o .one) h)
-    (Iff·trans (along-iff (r .first) (stride r) (pos (r .many) -ℤ pos 1) x (stride-above o h)) (to, from)))
+in-span {r} o h x = Iff·trans (in-places o h x) (Iff·trans (along-iff (r .first) (stride r) (pos (r .many) -ℤ pos 1) x (stride-above o h)) (to, from))
   where
     e : r .first +ℤ stride r *ℤ (pos (r .many) -ℤ pos 1) ≡ span r .high
     e = last-stride (r .first) (r .step) (r .many) h

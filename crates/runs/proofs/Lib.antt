@@ -12,6 +12,8 @@ pub mod ClassOfRun
 pub mod Intervals
 -- the part of a residue class in an interval as a run (`is-clip`)
 pub mod ClassInInterval
+-- the first number of a class and a count of those that follow it, as far as they lie within the range (`counted-run`, `all-in-range`)
+pub mod CountedClass
 -- the solutions of a congruence, from the greatest common divisor (`every`), or that there is none (`nothing`)
 pub mod CongruenceSolutions
 -- the period of a congruence's solutions
@@ -24,10 +26,8 @@ pub mod MeetMethod
 pub mod Passing
 -- what a run is carried to, by its members (`is-carry`)
 pub mod CarryMembers
--- the p with a partner in a residue class
+-- the p with a partner at the places of a class (`partner-at`)
 pub mod PartnerClass
--- the p whose partners lie in an interval (`in-image`)
-pub mod PartnerInterval
 -- carrying by the method is the definition (`carried`), for a above 0; any equation is made one (`upright-carry`)
 pub mod CarryMethod
 -- the model of the workings is the definitions: `meet-model`, `carry-model`

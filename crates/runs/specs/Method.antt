@@ -2,12 +2,12 @@
 -- to Search.antt; it says how they get there: a run is the part of a residue class from a lowest to a highest number, so
 -- two runs meet, and a run is carried, where a congruence is solved and an interval is clipped.
 use mathlib.Core.Logic.{_↔_}
-use mathlib.Core.Bool.{cond}
+use mathlib.Core.Bool.{Bool, cond}
 use Prim.Native.Nat.{ℕ, zero, suc, _≤_}
 use lib.IntN.{ℤ, pos, negℤ, natAbs, _+ℤ_, _-ℤ_, _*ℤ_}
 use lib.Signed.{_≤ℤ_, _<ℤ_, ltZ}
 use Rattle.ints.specs.Within.{Within}
-use Rattle.ints.specs.Floor.{floorDiv, floorMod, ceilDiv}
+use Rattle.ints.specs.Floor.{floorDiv, floorMod}
 use Rattle.ints.specs.Divides.{Congruent}
 use Rattle.ints.specs.Division.{limit}
 use Rattle.runs.specs.Run.{Run, OneForm, empty, full, bound}
@@ -89,6 +89,23 @@ pub record Clippable (c : Class) (i : Interval) : Type 0 where
   pub low : negℤ (pos bound) ≤ℤ i .low
   pub high : i .high ≤ℤ pos bound
 
+-- its first number and n more
+abbrev pub counted : Class → ℤ → Interval
+counted c n = record { low = c .first; high = c .first +ℤ c .step *ℤ n }
+
+-- as far as they lie within ±1,000,000,000
+abbrev pub countedRun : Class → ℤ → Run
+countedRun c n = clip c (common (counted c n) (span full))
+
+-- where this stays within 64 bits
+pub record Countable (c : Class) (n : ℤ) : Type 0 where
+  pub moves : pos 0 <ℤ c .step
+  pub step : Within limit (c .step)
+  pub low : pos 0 ≤ℤ n
+  pub high : n ≤ℤ pos 2000000000
+  pub first : Within 3000000000000000 (c .first)
+  pub last : Within 3000000000000000 (c .first +ℤ c .step *ℤ n)
+
 -- ---- meeting: the numbers first + stride·i of a that are congruent to b's first modulo b's stride
 abbrev pub placesIn : Run → Run → Congruence
 placesIn a b = record { u = stride a; v = b .first -ℤ a .first; d = stride b }
@@ -130,23 +147,27 @@ stepOf e q j = floorDiv (pos (natAbs (e .b)) *ℤ stride q) (floorDiv (e .a) (j 
 abbrev pub partners : Equation → Run → Class → Class
 partners e q j = record { first = floorDiv (partnerValue e (numbersAt q j .first)) (e .a); step = stepOf e q j }
 
--- the p between the partners of two q: the low end is rounded up, the high end down
-abbrev pub between : Equation → ℤ → ℤ → Interval
-between e q q′ = record { low = ceilDiv (partnerValue e q) (e .a); high = floorDiv (partnerValue e q′) (e .a) }
+-- the place of the last number
+abbrev pub lastPlace : Run → ℤ
+lastPlace q = pos (q .many) -ℤ pos 1
 
--- the p whose partners lie in an interval; a positive b turns low and high round
-abbrev pub image : Equation → Interval → Interval
-image e i = cond (ltZ (pos 0) (e .b)) (between e (i .high) (i .low)) (between e (i .low) (i .high))
+-- how many of the places of a class follow the first in the run
+abbrev pub moreIn : Run → Class → ℤ
+moreIn q j = floorDiv (lastPlace q -ℤ j .first) (j .step)
 
--- the p within the range whose partners lie from the first to the last number of a run
-abbrev pub imageInRange : Equation → Run → Interval
-imageInRange e q = common (image e (span q)) (span full)
+-- with a positive b the p fall where q rises
+abbrev pub falls : Equation → Bool
+falls e = ltZ (pos 0) (e .b)
+
+-- a p and n more, from the lowest on
+abbrev pub rising : Equation → Class → ℤ → Class
+rising e p n = cond (falls e) (record { first = p .first -ℤ p .step *ℤ n; step = p .step }) p
 
 abbrev pub carryBy : Solutions → Equation → Run → Run
 carryBy Nothing e q = empty
 carryBy (Every j) e q =
-    cond (ltZ (span q .high) (numbersAt q j .first)) empty
-    (clip (partners e q j) (imageInRange e q))
+    cond (ltZ (lastPlace q) (j .first)) empty
+    (countedRun (rising e (partners e q j) (moreIn q j)) (moreIn q j))
 
 -- the same equation with a above 0
 abbrev pub upright : Equation → Equation

@@ -6,7 +6,7 @@ use Prim.Native.Nat.{ℕ, zero, suc, _/_, _%_}
 use lib.Dec.{eqb}
 use lib.IntN.{ℤ, pos, negsuc, natAbs, _-ℤ_, _*ℤ_}
 use lib.Signed.{ltZ}
-use Rattle.ints.specs.Floor.{floorDiv, floorMod, ceilDiv}
+use Rattle.ints.specs.Floor.{floorDiv, floorMod}
 use Rattle.runs.specs.declared.congruence.Solutions.{Solutions}
 use Rattle.runs.specs.declared.congruence.Solutions.the-variants.{Nothing, Every}
 use Rattle.runs.specs.Run.{Run, empty}
@@ -45,5 +45,5 @@ unfolding solved floorDiv floorMod
 meetModel a b = cond (eqb (a .many) 0) empty (cond (eqb (b .many) 0) empty (meetBy (solved (placesIn a b)) a b))
 
 unfoldable pub carryModel : Equation → Run → Run
-unfolding solved floorDiv floorMod ceilDiv
+unfolding solved floorDiv floorMod
 carryModel e q = cond (eqb (q .many) 0) empty (carryBy (solved (placesWithPartner (upright e) q)) (upright e) q)

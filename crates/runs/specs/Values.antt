@@ -7,10 +7,10 @@ use Rattle.reasons.specs.Answer.{gives, refused}
 use Rattle.lists.specs.Keep.{every}
 use Rattle.runs.specs.Run.{Run, numbers, isOneForm, empty}
 use Rattle.runs.specs.Search.{runOf, meet, hasPartner}
-use Rattle.ints.specs.Floor.{floorDiv, floorMod, ceilDiv}
+use Rattle.ints.specs.Floor.{floorDiv, floorMod}
 use Rattle.runs.specs.Workings.{meeting}
 use Rattle.runs.specs.Groupings.{alone, pair, leaves, met, worked}
-use Rattle.runs.specs.Method.{clip, between, image, placesIn}
+use Rattle.runs.specs.Method.{clip, countedRun, rising, placesIn}
 
 -- −3, 1, 5
 abbrev three : Run
@@ -88,15 +88,15 @@ clipped : (clip (record { first = pos 0; step = pos 5 }) (record { low = pos 2; 
 unfolding floorDiv floorMod
 clipped = (refl, refl, refl)
 
--- 2·p + q = 0: q = −7 would have p at 3½, and q = 7 at −3½; rounded up and down that is 4 and −4
-rounded : between (record { a = pos 2; b = pos 1; c = pos 0 }) (negsuc 6) (pos 7) ≡ record { low = pos 4; high = negsuc 3 }
-unfolding floorDiv ceilDiv
-rounded = refl
+-- from −1,000,000,002 on by 5, with two more: the first is past the range, and of −1,000,000,002 alone nothing is left
+ranged : (countedRun (record { first = negsuc 1000000001; step = pos 5 }) (pos 2) ≡ record { first = negsuc 999999996; step = pos 5; many = 2 }) ×
+    (countedRun (record { first = negsuc 1000000001; step = pos 5 }) (pos 0) ≡ empty)
+unfolding floorDiv floorMod
+ranged = (refl, refl)
 
--- p + q = 0 turns 1..3 to −3..−1, and p − q = 0 leaves it
-turned : (image (record { a = pos 1; b = pos 1; c = pos 0 }) (record { low = pos 1; high = pos 3 }) ≡ record { low = negsuc 2; high = negsuc 0 }) ×
-    (image (record { a = pos 1; b = negsuc 0; c = pos 0 }) (record { low = pos 1; high = pos 3 }) ≡ record { low = pos 1; high = pos 3 })
-unfolding floorDiv ceilDiv
+-- p + q = 0 has p = −1 for q = 1, and −3 for the second after it; p − q = 0 has 1 and 3
+turned : (rising (record { a = pos 1; b = pos 1; c = pos 0 }) (record { first = negsuc 0; step = pos 1 }) (pos 2) ≡ record { first = negsuc 2; step = pos 1 }) ×
+    (rising (record { a = pos 1; b = negsuc 0; c = pos 0 }) (record { first = pos 1; step = pos 1 }) (pos 2) ≡ record { first = pos 1; step = pos 1 })
 turned = (refl, refl)
 
 -- the numbers −3 + 4·i that are 1 modulo 2: 4·i ≡ 4 (mod 2)

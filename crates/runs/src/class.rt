@@ -1,7 +1,7 @@
 //! Residue classes and intervals: the members of a class from a low to a high number are a run.
 
 ghost use mathlib.Core.Path.{_≡_};
-ghost use Rattle.runs.specs.Method.{greater, smaller, common, Clippable, clip, progression};
+ghost use Rattle.runs.specs.Method.{greater, smaller, common, Countable, countedRun, Clippable, clip, progression};
 ghost use Prim.Native.Nat.{_≤_};
 use crate::Run;
 
@@ -42,6 +42,24 @@ fn smaller(x: i64, y: i64) -> i64
 }
 
 impl Class {
+    /// The run of its first number and `more` that follow it, as far as they lie within ±1,000,000,000. Most often all do.
+    pub(crate) fn counted_run(self, more: i64) -> Run
+        requires { ⌜ Countable self more ⌝ }
+        ensures { λ r. ⌜ r ≡ countedRun self more ⌝ }
+    {
+        let last = self.first + self.step * more;
+        if -1000000000 <= self.first {
+            if last <= 1000000000 {
+                return progression(self.first, self.step, more as u32);
+            }
+        }
+        let counted = Interval {
+            low: self.first,
+            high: last,
+        };
+        self.clip(counted.common(Run::full().span()))
+    }
+
     /// The run of the members in an interval.
     pub(crate) fn clip(self, to: Interval) -> Run
         requires { ⌜ Clippable self to ⌝ }

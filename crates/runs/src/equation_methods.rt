@@ -2,16 +2,17 @@
 
 ghost use mathlib.Core.Path.{_≡_};
 ghost use Prim.Native.Nat.{_≤_};
+ghost use lib.IntN.{_-ℤ_, _*ℤ_};
 ghost use lib.Signed.{_≤ℤ_};
 ghost use Rattle.ints.specs.Within.{Within};
+ghost use Rattle.ints.specs.Division.{limit};
 ghost use Rattle.runs.specs.Run.{OneForm, bound};
 ghost use Rattle.runs.specs.Workings.{CarryLimits, carryLimits};
-ghost use Rattle.runs.specs.Method.{upright, Carriable, partnerValue, placesWithPartner, AllSolutions, numbersAt, span, partners, stepOf, between, image, imageInRange, carryBy};
+ghost use Rattle.runs.specs.Method.{upright, Carriable, partnerValue, placesWithPartner, AllSolutions, lastPlace, partners, rising, stepOf, carryBy};
 ghost use Rattle.runs.specs.declared.congruence.Solutions.the-variants.{Every};
 use crate::Equation;
 use crate::Run;
 use crate::class::Class;
-use crate::class::Interval;
 use crate::congruence::Congruence;
 
 impl Equation {
@@ -57,26 +58,42 @@ impl Equation {
         }
     }
 
-    // The run of the p, from the places of their partners. No place is before the first, so that where the first is past
-    // the end there is none; a low end that is reached only past the high end is told by `clip`.
+    // The run of the p, from the places of their partners: one at the first of these, if it is in the run, and one more for
+    // each period up to the last place.
     pub(crate) fn carried(self, q: Run, j: Class) -> Run
         requires { ⌜ Carriable self q ⌝ }
         requires { ⌜ AllSolutions (placesWithPartner self q) j ⌝ }
         ensures { λ r. ⌜ r ≡ carryBy (Every j) self q ⌝ }
     {
-        let start = q.numbers_at(j).first;
-        let ends = q.span();
-        if ends.high < start {
+        let last = q.many as i64 - 1;
+        if last < j.first {
             return Run::empty();
         }
-        self.partners(q, j).clip(self.image_in_range(q))
+        let more = ints::quotient(last - j.first, j.step);
+        self.rising(self.partners(q, j), more).counted_run(more)
+    }
+
+    // The p from the lowest on: with a positive b they fall where q rises.
+    fn rising(self, p: Class, more: i64) -> Class
+        requires { ⌜ Within limit (p .step *ℤ more) ⌝ }
+        requires { ⌜ Within limit (p .first -ℤ p .step *ℤ more) ⌝ }
+        ensures { λ r. ⌜ r ≡ rising self p more ⌝ }
+    {
+        if 0 < self.b {
+            Class {
+                first: p.first - p.step * more,
+                step: p.step,
+            }
+        } else {
+            p
+        }
     }
 
     // The class of the p, from the places of their partners, the first of which is in the run.
     fn partners(self, q: Run, j: Class) -> Class
         requires { ⌜ Carriable self q ⌝ }
         requires { ⌜ AllSolutions (placesWithPartner self q) j ⌝ }
-        requires { ⌜ numbersAt q j .first ≤ℤ span q .high ⌝ }
+        requires { ⌜ j .first ≤ℤ lastPlace q ⌝ }
         ensures { λ r. ⌜ r ≡ partners self q j ⌝ }
     {
         Class {
@@ -97,46 +114,11 @@ impl Equation {
         )
     }
 
-    // The p within the range whose partners lie from the first to the last number of a run.
-    fn image_in_range(self, q: Run) -> Interval
-        requires { ⌜ Carriable self q ⌝ }
-        ensures { λ r. ⌜ r ≡ imageInRange self q ⌝ }
-    {
-        self.image(q.span()).common(Run::full().span())
-    }
-
     fn partner_value(self, q: i64) -> i64
         requires { ⌜ CarryLimits self ⌝ }
         requires { ⌜ Within bound q ⌝ }
         ensures { λ r. ⌜ r ≡ partnerValue self q ⌝ }
     {
         self.c - self.b * q
-    }
-
-    // The p whose partners lie in an interval: a positive b turns low and high round.
-    fn image(self, i: Interval) -> Interval
-        requires { ⌜ CarryLimits self ⌝ }
-        requires { ⌜ Within bound (i .low) ⌝ }
-        requires { ⌜ Within bound (i .high) ⌝ }
-        ensures { λ r. ⌜ r ≡ image self i ⌝ }
-    {
-        if 0 < self.b {
-            self.between(i.high, i.low)
-        } else {
-            self.between(i.low, i.high)
-        }
-    }
-
-    // The p between the partners of two q: the low end is rounded up, the high end down.
-    fn between(self, from: i64, to: i64) -> Interval
-        requires { ⌜ CarryLimits self ⌝ }
-        requires { ⌜ Within bound from ⌝ }
-        requires { ⌜ Within bound to ⌝ }
-        ensures { λ r. ⌜ r ≡ between self from to ⌝ }
-    {
-        Interval {
-            low: ints::ceiling(self.partner_value(from), self.a),
-            high: ints::quotient(self.partner_value(to), self.a),
-        }
     }
 }

@@ -11,7 +11,7 @@ use Rattle.ints.proofs.{ℤ, _≤ℤ_}
 use Rattle.ints.proofs.Signed.{held}
 use Rattle.runs.specs.Run.{Run, bound}
 use Rattle.runs.specs.Workings.{Equation}
-use Rattle.runs.specs.Method.{Class, Carriable, AllSolutions, span, numbersAt, partnerValue, placesWithPartner, partners}
+use Rattle.runs.specs.Method.{Class, Carriable, AllSolutions, lastPlace, numbersAt, partnerValue, placesWithPartner, partners}
 use Rattle.runs.proofs.ClassInInterval.{same-class}
 use Rattle.runs.proofs.CarryWidths.{fits-q, divided-asked, divided-is}
 use Rattle.runs.proofs.CarryMethod.{carry-places, start-within}
@@ -19,7 +19,7 @@ use Rattle.runs.proofs.Equation.partners.Statement.{statement}
 use Rattle.runs.proofs.Equation.partners.Tie as tie
 
 -- at is the class of the numbers with a partner
-module _ {e : Equation} {q : Run} {j : Class} (p : Carriable e q × (AllSolutions (placesWithPartner e q) j × (numbersAt q j .first ≤ℤ span q .high))) (at : Class) (at-is : at ≡ numbersAt q j) where
+module _ {e : Equation} {q : Run} {j : Class} (p : Carriable e q × (AllSolutions (placesWithPartner e q) j × (j .first ≤ℤ lastPlace q))) (at : Class) (at-is : at ≡ numbersAt q j) where
   within : Within bound (numbersAt q j .first)
   within = start-within (p .0) (p .1 .0) (p .1 .1)
 
