@@ -33,7 +33,7 @@ use Rattle.families.proofs.ModelIsExact.{exact}
 use Rattle.solver.specs.declared.join.Indices.{Indices}
 use Rattle.solver.specs.Labels.{Labelled, Merges, Labels, Apart}
 use Rattle.solver.specs.Spans.{Leads}
-use Rattle.solver.specs.Fields.{runOf, gathered}
+use Rattle.solver.specs.Fields.{runBy, gathered}
 use Rattle.solver.specs.Steps.{indicesBy, Reducible, BothReducible, BothReduce}
 
 -- the arrays have at each variable what the model has after k equations
@@ -61,10 +61,10 @@ module _ (j : Job) (f : LawfulJob j) where
 
   pub follows-start : (labels : List ℕ) (firsts steps : List ℤ) (manys : List ℕ) (begun : ℕ → Run) → ((i : ℕ) → i < length (j .variables) → getD labels i 0 ≡ i) →
       ((i : ℕ) → i < length (j .variables) → begun i ≡ meet full (interval (variable j i .low) (variable j i .high))) →
-      ((i : ℕ) → i < length (j .variables) → runOf firsts steps (getD manys i 0) i ≡ begun i) → Follows j 0 labels firsts steps manys
+      ((i : ℕ) → i < length (j .variables) → runBy firsts steps (getD manys i 0) i ≡ begun i) → Follows j 0 labels firsts steps manys
   follows-start labels firsts steps manys begun g r p = record {
     label = λ i h. g i h ∙ sym (start-label i h);
-    run = λ i h. ap (λ l. runOf firsts steps (getD manys l 0) i) (g i h) ∙ p i h ∙ r i h ∙ sym (start-run i h);
+    run = λ i h. ap (λ l. runBy firsts steps (getD manys l 0) i) (g i h) ∙ p i h ∙ r i h ∙ sym (start-run i h);
   }
 
 -- ---- the model's step
@@ -92,10 +92,10 @@ through-many r s = go (ℕ-discrete (s .many) 0)
 -- how many a run has makes no difference to the numbers of its part
 module _ (l r : ℕ) (i : Pair) (firsts steps : List ℤ) (g many v : ℕ) where
   abbrev plain : Run
-  plain = runOf firsts steps 0 v
+  plain = runBy firsts steps 0 v
 
   abbrev full-run : Run
-  full-run = runOf firsts steps many v
+  full-run = runBy firsts steps many v
 
   after-numbers : Dec (g ≡ l) → Dec (g ≡ r) →
       (runAfter l r i g plain .first ≡ runAfter l r i g full-run .first) × (runAfter l r i g plain .step ≡ runAfter l r i g full-run .step)
@@ -106,10 +106,10 @@ module _ (l r : ℕ) (i : Pair) (firsts steps : List ℤ) (g many v : ℕ) where
   after-numbers (no p) (no q) =
       (ap (λ r. r .first) (after-other l r i g plain p q) ∙ sym (ap (λ r. r .first) (after-other l r i g full-run p q)), ap (λ r. r .step) (after-other l r i g plain p q) ∙ sym (ap (λ r. r .step) (after-other l r i g full-run p q)))
 
-  after-first : runAfter l r i g (runOf firsts steps 0 v) .first ≡ runAfter l r i g (runOf firsts steps many v) .first
+  after-first : runAfter l r i g (runBy firsts steps 0 v) .first ≡ runAfter l r i g (runBy firsts steps many v) .first
   after-first = after-numbers (ℕ-discrete g l) (ℕ-discrete g r) .0
 
-  after-step : runAfter l r i g (runOf firsts steps 0 v) .step ≡ runAfter l r i g (runOf firsts steps many v) .step
+  after-step : runAfter l r i g (runBy firsts steps 0 v) .step ≡ runAfter l r i g (runBy firsts steps many v) .step
   after-step = after-numbers (ℕ-discrete g l) (ℕ-discrete g r) .1
 
 -- inside one component the same indices stay on both sides
@@ -245,8 +245,8 @@ module _ {j : Job} {n k : ℕ} {labels : List ℕ} {firsts steps : List ℤ} {ma
       after = λ v b e. subst FamilyRun (f v e ∙ ap (λ r. through r s) (counted v e)) (new-family v b);
     }
       where
-        counted : (v : ℕ) → getD labels v 0 ≡ g → seen v ≡ runOf firsts steps x v
-        counted v e = ap (λ many. runOf firsts steps many v) (ap (λ g. getD manys g 0) e ∙ sym m)
+        counted : (v : ℕ) → getD labels v 0 ≡ g → seen v ≡ runBy firsts steps x v
+        counted v e = ap (λ many. runBy firsts steps many v) (ap (λ g. getD manys g 0) e ∙ sym m)
 
     pub reducible : BothReducible labels firsts steps (getD labels (e .left) 0) (getD labels (e .right) 0) i (getD manys (getD labels (e .left) 0) 0) (getD manys (getD labels (e .right) 0) 0) n
     reducible = record {

@@ -13,7 +13,7 @@ use Rattle.families.specs.Model.{Indices as Pair, through, runAfter}
 use Rattle.lists.specs.Table.{Tabulates}
 use Rattle.solver.specs.StateArrays.{labelIn}
 use Rattle.solver.specs.Spans.{Spans}
-use Rattle.solver.specs.Fields.{runOf}
+use Rattle.solver.specs.Fields.{runBy}
 use Rattle.solver.specs.declared.cycle.Remains.{Remains}
 use Rattle.solver.specs.declared.cycle.Remains.the-variants.{All, At}
 use Rattle.solver.specs.declared.join.Indices.{Indices}
@@ -42,12 +42,12 @@ pub record Arrays (labels lasts : List ℕ) (firsts steps : List ℤ) (n : ℕ) 
 
 -- what is asked of the runs of component g, of which the members at these indices are to stay
 pub record Reducible (labels : List ℕ) (firsts steps : List ℤ) (g : ℕ) (kept : Run) (many n : ℕ) : Type 0 where
-  pub before : (v : ℕ) → v < n → labelIn labels v ≡ g → FamilyRun (runOf firsts steps many v)
-  pub after : (v : ℕ) → v < n → labelIn labels v ≡ g → FamilyRun (through (runOf firsts steps many v) kept)
+  pub before : (v : ℕ) → v < n → labelIn labels v ≡ g → FamilyRun (runBy firsts steps many v)
+  pub after : (v : ℕ) → v < n → labelIn labels v ≡ g → FamilyRun (through (runBy firsts steps many v) kept)
 
 -- and what the numbers are then. How many there are makes no difference to them.
 abbrev pub partOf : List ℕ → List ℤ → List ℤ → ℕ → Run → ℕ → Run
-partOf labels firsts steps g kept v = cond (eqb (labelIn labels v) g) (through (runOf firsts steps 0 v) kept) (runOf firsts steps 0 v)
+partOf labels firsts steps g kept v = cond (eqb (labelIn labels v) g) (through (runBy firsts steps 0 v) kept) (runBy firsts steps 0 v)
 
 pub record Reduces (labels : List ℕ) (firsts steps : List ℤ) (g : ℕ) (kept : Run) (n : ℕ) (firsts′ steps′ : List ℤ) : Type 0 where
   pub first : Tabulates (pos 0) (λ v. partOf labels firsts steps g kept v .first) n firsts′
@@ -64,7 +64,7 @@ pub record BothReducible (labels : List ℕ) (firsts steps : List ℤ) (l r : �
   pub right : Reducible labels firsts steps r (i .right) y n
 
 abbrev pub bothPart : List ℕ → List ℤ → List ℤ → ℕ → ℕ → Indices → ℕ → Run
-bothPart labels firsts steps l r i v = runAfter l r (indicesBy i) (labelIn labels v) (runOf firsts steps 0 v)
+bothPart labels firsts steps l r i v = runAfter l r (indicesBy i) (labelIn labels v) (runBy firsts steps 0 v)
 
 pub record BothReduce (labels : List ℕ) (firsts steps : List ℤ) (l r : ℕ) (i : Indices) (n : ℕ) (firsts′ steps′ : List ℤ) : Type 0 where
   pub first : Tabulates (pos 0) (λ v. bothPart labels firsts steps l r i v .first) n firsts′

@@ -14,7 +14,7 @@ use Rattle.families.specs.Model.{through}
 use Rattle.lists.proofs.ArrayPass.{Passed, begin, write, skip, leap}
 use Rattle.solver.specs.StateArrays.{labelIn}
 use Rattle.solver.specs.Spans.{Leads, Spans}
-use Rattle.solver.specs.Fields.{runOf}
+use Rattle.solver.specs.Fields.{runBy}
 use Rattle.solver.specs.Steps.{Reducible, partOf}
 use Rattle.solver.proofs.ReducedRuns.{part-own, part-other}
 use Rattle.solver.proofs.reduce.walk.Statement.{statement}
@@ -138,7 +138,7 @@ stood : (c : tie.After-t29 Inv-loop μ-loop) →
     let d = c .before .before .before .before in
     let l = d .before .loop in
     let x = s d .args in
-    _≡_ {A = Run} record { first = held (getD (l .firsts) (l .i) (pos 0)); step = held (getD (l .steps) (l .i) (pos 0)); many = x .many } (runOf (x .firsts .now) (x .steps .now) (x .many) (l .i))
+    _≡_ {A = Run} record { first = held (getD (l .firsts) (l .i) (pos 0)); step = held (getD (l .steps) (l .i) (pos 0)); many = x .many } (runBy (x .firsts .now) (x .steps .now) (x .many) (l .i))
 stood c =
     let d = c .before .before .before .before in
     let l = d .before .loop in
@@ -181,7 +181,7 @@ loop-again c =
       omega arith,
       ⊎-elim
           (λ w.
-          let part : w .3 .result ≡ through (runOf (x .firsts .now) (x .steps .now) (x .many) (l .i)) (x .kept) = w .3 .ensures ∙ ap (λ run. through run (x .kept)) (stood record { before = record { before = record { before = c .before; if1 = w .0 }; t26 = w .1 }; t29 = w .2 }) in
+          let part : w .3 .result ≡ through (runBy (x .firsts .now) (x .steps .now) (x .many) (l .i)) (x .kept) = w .3 .ensures ∙ ap (λ run. through run (x .kept)) (stood record { before = record { before = record { before = c .before; if1 = w .0 }; t26 = w .1 }; t29 = w .2 }) in
           let own = part-own (x .labels .now) (x .firsts .now) (x .steps .now) (x .g) (x .kept) (l .i) (w .0 .taken) in
           rw (w .6, w .7) (
             write (pos 0) f (x .firsts .now) (l .i) (l .firsts) (l .inv .1 .0) _ (i-256 d) (toZ-ofZ record { sfits = w .4 .given .0 .1 } ∙ ap (λ r. r .first) part ∙ ap (λ r. r .first) own),
