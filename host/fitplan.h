@@ -11,7 +11,7 @@
  *   - a length is the true length of its buffer;
  *   - no two buffers of a call overlap, the job included;
  *   - the buffers stay valid until the call returns, and nothing else writes to them meanwhile;
- *   - there is room on the stack: a call takes some 39 kB;
+ *   - there is room on the stack: a call takes some 36 kB;
  *   - the ABI's rules hold, without an operating system too: stack alignment, red zone, SSE2 on.
  *
  * What the host can rely on: a job may be any bytes at all; every call returns, keeps within its
