@@ -91,20 +91,20 @@ through-many r s = go (ℕ-discrete (s .many) 0)
 
 -- how many a run has makes no difference to the numbers of its part
 module _ (l r : ℕ) (i : Pair) (firsts steps : List ℤ) (g many v : ℕ) where
-  abbrev plain : Run
-  plain = runBy firsts steps 0 v
+  abbrev without-many : Run
+  without-many = runBy firsts steps 0 v
 
-  abbrev full-run : Run
-  full-run = runBy firsts steps many v
+  abbrev with-many : Run
+  with-many = runBy firsts steps many v
 
   after-numbers : Dec (g ≡ l) → Dec (g ≡ r) →
-      (runAfter l r i g plain .first ≡ runAfter l r i g full-run .first) × (runAfter l r i g plain .step ≡ runAfter l r i g full-run .step)
+      (runAfter l r i g without-many .first ≡ runAfter l r i g with-many .first) × (runAfter l r i g without-many .step ≡ runAfter l r i g with-many .step)
   after-numbers (yes e) d =
-      (ap (λ r. r .first) (after-left l r i g plain e) ∙ sym (ap (λ r. r .first) (after-left l r i g full-run e)), ap (λ r. r .step) (after-left l r i g plain e) ∙ sym (ap (λ r. r .step) (after-left l r i g full-run e)))
+      (ap (λ r. r .first) (after-left l r i g without-many e) ∙ sym (ap (λ r. r .first) (after-left l r i g with-many e)), ap (λ r. r .step) (after-left l r i g without-many e) ∙ sym (ap (λ r. r .step) (after-left l r i g with-many e)))
   after-numbers (no p) (yes e) =
-      (ap (λ r. r .first) (after-right l r i g plain p e) ∙ sym (ap (λ r. r .first) (after-right l r i g full-run p e)), ap (λ r. r .step) (after-right l r i g plain p e) ∙ sym (ap (λ r. r .step) (after-right l r i g full-run p e)))
+      (ap (λ r. r .first) (after-right l r i g without-many p e) ∙ sym (ap (λ r. r .first) (after-right l r i g with-many p e)), ap (λ r. r .step) (after-right l r i g without-many p e) ∙ sym (ap (λ r. r .step) (after-right l r i g with-many p e)))
   after-numbers (no p) (no q) =
-      (ap (λ r. r .first) (after-other l r i g plain p q) ∙ sym (ap (λ r. r .first) (after-other l r i g full-run p q)), ap (λ r. r .step) (after-other l r i g plain p q) ∙ sym (ap (λ r. r .step) (after-other l r i g full-run p q)))
+      (ap (λ r. r .first) (after-other l r i g without-many p q) ∙ sym (ap (λ r. r .first) (after-other l r i g with-many p q)), ap (λ r. r .step) (after-other l r i g without-many p q) ∙ sym (ap (λ r. r .step) (after-other l r i g with-many p q)))
 
   after-first : runAfter l r i g (runBy firsts steps 0 v) .first ≡ runAfter l r i g (runBy firsts steps many v) .first
   after-first = after-numbers (ℕ-discrete g l) (ℕ-discrete g r) .0
@@ -120,6 +120,29 @@ ring-sides f l r P Q i z h = go (cycle f P Q) (h ∙ ap (λ b. cond b (bothSides
     go : (o : Option Run) → some i ≡ bothSides o → i .left ≡ i .right
     go none e = absurd (Option·none-ne-some i (sym e))
     go (some s) e = cc
+
+-- ---- the labels alone
+pub labels-start : (j : Job) (n : ℕ) (labels : List ℕ) → n ≤ 256 → Apart labels → Labels j 0 n labels
+unfolding lowestBy
+labels-start j n labels h a = record { at = λ i b. a .at i (omega arith) }
+
+module _ (j : Job) (k : ℕ) (labels : List ℕ) (n : ℕ) (a : Labels j k n labels) where
+  pub labels-le : Labelled labels n
+  labels-le = record { at = λ i h. omega (arith, a .at i h, lowestBy-le j k i) }
+
+  -- the label of a variable is the lowest of its component
+  pub labels-lead : (i : ℕ) → i < n → Leads labels n (getD labels i 0)
+  labels-lead i h =
+      let below : getD labels i 0 < n = omega (arith, labels-le .at i h, h) in
+      record { below = below; self = a .at (getD labels i 0) below ∙ ap (lowestBy j k) (a .at i h) ∙ lowestBy-self j k i ∙ sym (a .at i h) }
+
+  -- one equation more, whose row is e
+  module _ (e : Equation) (is : e ≡ equation j k) (left : e .left < n) (right : e .right < n) where
+    next-at : (i : ℕ) → i < n → lowestBy j (suc k) i ≡ merged (getD labels (e .left) 0) (getD labels (e .right) 0) (getD labels i 0)
+    next-at i h = next-label j k i ∙ rw (sym is, a .at (e .left) left, a .at (e .right) right, a .at i h) refl
+
+    pub labels-joined : (after : List ℕ) → Merges labels (getD labels (e .left) 0) (getD labels (e .right) 0) n after → Labels j (suc k) n after
+    labels-joined after m = record { at = λ i h. m .at i h ∙ sym (next-at i h) }
 
 -- ---- one equation more
 -- what is known at equation k of a lawful job with n variables, whose row is e
@@ -182,25 +205,14 @@ module _ {j : Job} {n k : ℕ} {labels : List ℕ} {firsts steps : List ℤ} {ma
   pub right-family : FamilyRun (gathered labels firsts steps manys (e .right))
   right-family = family (e .right) right-below
 
-  -- labels are not above their variables
-  label-le : (i : ℕ) → i < n → getD labels i 0 ≤ i
-  label-le i h = omega (arith, label-is i h ∙ known .invariant .labels i (within h), lowestBy-le j k i)
-
-  pub labelled : Labelled labels n
-  labelled = record { at = label-le }
-
-  -- and lead their components
-  leads : (i : ℕ) → i < n → Leads labels n (getD labels i 0)
-  leads i h =
-      let below : getD labels i 0 < n = omega (arith, label-le i h, h) in
-      let of : (i : ℕ) → i < n → getD labels i 0 ≡ lowestBy j k i = λ i h. label-is i h ∙ known .invariant .labels i (within h) in
-      record { below = below; self = of (getD labels i 0) below ∙ ap (lowestBy j k) (of i h) ∙ lowestBy-self j k i ∙ sym (of i h) }
+  labels-are : Labels j k n labels
+  labels-are = record { at = λ i h. label-is i h ∙ known .invariant .labels i (within h) }
 
   pub left-leads : Leads labels n (getD labels (e .left) 0)
-  left-leads = leads (e .left) left-below
+  left-leads = labels-lead j k labels n labels-are (e .left) left-below
 
   pub right-leads : Leads labels n (getD labels (e .right) 0)
-  right-leads = leads (e .right) right-below
+  right-leads = labels-lead j k labels n labels-are (e .right) right-below
 
   -- what the model keeps here, and the step that it takes
   abbrev pub keeps : Option Pair
@@ -308,26 +320,3 @@ pub follows-end : (j : Job) → LawfulJob j → (labels : List ℕ) (firsts step
     (getD labels i 0 ≡ lowest j i) × (gathered labels firsts steps manys i ≡ familyRun j i)
 unfolding stateAfterAll
 follows-end j f labels firsts steps manys o i h = let (g, r) = exact j f i h in (o .label i h ∙ g, o .run i h ∙ r)
-
--- ---- the labels alone
-pub labels-start : (j : Job) (n : ℕ) (labels : List ℕ) → n ≤ 256 → Apart labels → Labels j 0 n labels
-unfolding lowestBy
-labels-start j n labels h a = record { at = λ i b. a .at i (omega arith) }
-
-module _ (j : Job) (k : ℕ) (labels : List ℕ) (n : ℕ) (a : Labels j k n labels) where
-  pub labels-le : Labelled labels n
-  labels-le = record { at = λ i h. omega (arith, a .at i h, lowestBy-le j k i) }
-
-  -- the label of a variable is the lowest of its component
-  pub labels-lead : (i : ℕ) → i < n → Leads labels n (getD labels i 0)
-  labels-lead i h =
-      let below : getD labels i 0 < n = omega (arith, labels-le .at i h, h) in
-      record { below = below; self = a .at (getD labels i 0) below ∙ ap (lowestBy j k) (a .at i h) ∙ lowestBy-self j k i ∙ sym (a .at i h) }
-
-  -- one equation more, whose row is e
-  module _ (e : Equation) (is : e ≡ equation j k) (left : e .left < n) (right : e .right < n) where
-    next-at : (i : ℕ) → i < n → lowestBy j (suc k) i ≡ merged (getD labels (e .left) 0) (getD labels (e .right) 0) (getD labels i 0)
-    next-at i h = next-label j k i ∙ rw (sym is, a .at (e .left) left, a .at (e .right) right, a .at i h) refl
-
-    pub labels-joined : (after : List ℕ) → Merges labels (getD labels (e .left) 0) (getD labels (e .right) 0) n after → Labels j (suc k) n after
-    labels-joined after m = record { at = λ i h. m .at i h ∙ sym (next-at i h) }

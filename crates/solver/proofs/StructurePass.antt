@@ -1,7 +1,7 @@
 -- The pass over the equations, one equation at a time: what has been found of those before k.
 use mathlib.Core.Path.{_≡_, refl, sym, _∙_, ap, subst}
 use mathlib.Core.Logic.{_≢_}
-use mathlib.Core.Bool.{Bool, true, false, _||_}
+use mathlib.Core.Bool.{true, false, _||_}
 use mathlib.Core.List.{List}
 use Prim.Native.Nat.{ℕ, zero, suc, _+_, _≤_, _<_}
 use native.Mathlib.Decide.{ℕ-discrete}
@@ -20,7 +20,6 @@ use Rattle.solver.specs.Labels.{Labels}
 
 -- labels and degrees of n variables, left variables and kinds of k equations
 pub record Through (j : Job) (n k : ℕ) (labels degrees homes kinds : List ℕ) : Type 0 where
-  pub long : length labels ≡ 256
   pub labelled : Labels j k n labels
   pub wide : length degrees ≡ 256
   pub named : Tabulates 0 (degreeBy j k) n degrees
@@ -32,9 +31,8 @@ zeros zero i = refl
 zeros (suc n) zero = refl
 zeros (suc n) (suc i) = zeros n i
 
-pub begins : (j : Job) (n : ℕ) (labels : List ℕ) → length labels ≡ 256 → Labels j 0 n labels → Through j n 0 labels (replicate 256 0) (replicate 1024 0) (replicate 1024 0)
-begins j n labels l a = record {
-  long = l;
+pub begins : (j : Job) (n : ℕ) (labels : List ℕ) → Labels j 0 n labels → Through j n 0 labels (replicate 256 0) (replicate 1024 0) (replicate 1024 0)
+begins j n labels a = record {
   labelled = a;
   wide = length-replicate {A = ℕ} 256 0;
   named = record { at = λ i h. zeros 256 i ∙ sym (degree-none j i) };
@@ -107,10 +105,9 @@ kind-by j k n labels a p q = rw (a .at (equation j k .left) p, a .at (equation j
 module _ {j : Job} {n k : ℕ} {labels degrees homes kinds : List ℕ} (t : Through j n k labels degrees homes kinds) (small : n ≤ 256) (below : k < 1024)
     (e : Equation) (is : e ≡ equation j k) (left : equation j k .left < n) (right : equation j k .right < n) (different : equation j k .left ≢ equation j k .right) where
   -- with the labels after it, and what was found of its kind
-  pub onward : (after : List ℕ) → length after ≡ 256 → Labels j (k + 1) n after → (x : ℕ) → x ≡ kindBy (getD labels (e .left) 0) (getD labels (e .right) 0) →
+  pub onward : (after : List ℕ) → Labels j (k + 1) n after → (x : ℕ) → x ≡ kindBy (getD labels (e .left) 0) (getD labels (e .right) 0) →
       Through j n (k + 1) after (more (more degrees (e .left)) (e .right)) (set homes k (e .left)) (set kinds k x)
-  onward after l a x q = record {
-    long = l;
+  onward after a x q = record {
     labelled = a;
     wide =
         length-set (more degrees (e .left)) (e .right) (getD (more degrees (e .left)) (e .right) 0 + 1)

@@ -7,11 +7,11 @@ use native.Mathlib.Omega.{arith}
 use borrow.Author.Needs.{needs}
 use lib.ListN.{getD, set}
 use Rattle.jobs.specs.Job.{Job, jobOf, equation}
-use Rattle.solver.specs.Labels.{Labelled, Merges, Labels}
+use Rattle.solver.specs.Labels.{Merges, Labels}
 use Rattle.solver.proofs.LawfulRows.{n-most, m-most, row-asked, left-below, right-below, different-variables}
 use Rattle.solver.specs.Spans.{Leads}
 use Rattle.solver.proofs.SpannedLabels.{InSpans, spans-apart}
-use Rattle.solver.proofs.CodeFollowsModel.{labels-start, labels-le, labels-lead, labels-joined}
+use Rattle.solver.proofs.CodeFollowsModel.{labels-start, labels-lead, labels-joined}
 use Rattle.solver.proofs.StructurePass.{Through, begins, degree-small, right-stays, onward}
 use Rattle.solver.proofs.structure.of_job.Statement.{statement}
 use Rattle.solver.proofs.structure.of_job.Tie as tie
@@ -31,7 +31,7 @@ loop-holds c =
       omega arith,
       (
         record { labelled-256 = search needs; ended-256 = search needs; spans = spans-apart labels (c .apart2 .result) (s .args .n) (n-most (s .pre)) (a .apart .ensures) (c .apart2 .ensures) },
-        begins (jobOf (s .args .job .now)) (s .args .n) labels (search needs) (labels-start (jobOf (s .args .job .now)) (s .args .n) labels (n-most (s .pre)) (a .apart .ensures)),
+        begins (jobOf (s .args .job .now)) (s .args .n) labels (labels-start (jobOf (s .args .job .now)) (s .args .n) labels (n-most (s .pre)) (a .apart .ensures)),
       ),
     )
 
@@ -96,9 +96,6 @@ module _ (c : tie.After-read Inv-loop μ-loop) where
 
   right-leads : Leads labels n r
   right-leads = labels-lead j k labels n (through .labelled) (c .read .result .right) right-in
-
-  labelled : Labelled labels n
-  labelled = labels-le j k labels n (through .labelled)
 
   joins : (after : List ℕ) → Merges labels l r n after → Labels j (suc k) n after
   joins after m = labels-joined j k labels n (through .labelled) (c .read .result) is left-in right-in after m
@@ -191,7 +188,7 @@ loop-again c =
       (
         record { labelled-256 = search needs; ended-256 = search needs; spans = d .join .ensures .1 },
         onward (through a) (n-most (s a .pre)) (omega (arith, k-below a, m-most (s a .pre))) (a .read .result) (is a) (own-left a) (own-right a) (different a)
-            labels (search needs) (subst (λ k. Labels (j a) k (n a) labels) next (joins a labels (d .join .ensures .0))) (b .kind .result) (b .kind .ensures),
+            labels (subst (λ k. Labels (j a) k (n a) labels) next (joins a labels (d .join .ensures .0))) (b .kind .result) (b .kind .ensures),
       ),
     )
 
