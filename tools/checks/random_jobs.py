@@ -1,0 +1,80 @@
+"""Pseudo-random jobs as text: named and not, planned, without a fit-out, and faulty."""
+
+NAMES = ("cards", "extensions", "ringing units", "cords", "Klappen", "trunk lines B2", "a_b", "Weckrufe früh", "spares", "E9", "left")
+LIMIT = 1_000_000_000
+
+
+def numbers_near(chance, spread):
+    return [chance.randint(-spread, spread) for _ in range(chance.choice((1, 2, 2, 3, 3, 4, 5, 6, 9)))]
+
+
+def count_line(chance, name, hidden, width):
+    """Bounds about the hidden number: tight, one-sided, wide or, now and then, without it."""
+    low, high = hidden - chance.randint(0, width), hidden + chance.randint(0, width)
+    kind = chance.random()
+    if kind < 0.15:
+        low, high = -LIMIT, LIMIT
+    elif kind < 0.25:
+        low = -LIMIT
+    elif kind < 0.35:
+        high = LIMIT
+    elif kind < 0.42:
+        low = hidden + chance.randint(1, 3)
+    weight = chance.choice((0, chance.randint(-9, 9), chance.randint(-1_000_000, 1_000_000)))
+    return f"count {name} {low}..{high} weight {weight}".replace("  ", " ")
+
+
+def tie_line(chance, called, hidden, largest):
+    """A tie that the hidden numbers keep, or now and then nearly."""
+    left, right = chance.sample(range(len(hidden)), 2)
+    a, b = (chance.choice((-1, 1)) * chance.randint(1, largest) for _ in range(2))
+    side = a * hidden[left] + b * hidden[right] + (chance.random() < 0.15) * chance.randint(-4, 4)
+    if chance.random() < 0.01:  # out of reach for every number, whatever the bounds
+        side = min(3 * LIMIT * (abs(a) + abs(b)), 2_000_000_000_000_000) * chance.choice((-1, 1))
+    return f"tie {a} {called[left]} + {b} {called[right]} = {side}"
+
+
+def lawful(chance):
+    """A job that is not refused: in some the ties are a chain with rings of up to 60 counts."""
+    hidden = numbers_near(chance, chance.choice((5, 40, 1000)))
+    if chance.random() < 0.02:
+        hidden = hidden * 10
+    width, largest = chance.choice(((0, 1), (3, 2), (12, 4), (40, 9), (5000, 1000), (10**8, 10**6)))
+    names = chance.sample(NAMES, min(len(hidden), len(NAMES))) + [""] * len(hidden)
+    names = [name if chance.random() < 0.5 else "" for name in names[: len(hidden)]]
+    called = [name or f"c{i}" for i, name in enumerate(names)]
+    lines = [count_line(chance, name, number, width) for name, number in zip(names, hidden)]
+    if len(hidden) > 1:
+        lines += [tie_line(chance, called, hidden, largest) for _ in range(chance.randint(0, len(hidden) + 2))]
+    return "\n".join(lines) + "\n"
+
+
+def frame(chance, n, m, is_long):
+    """A frame of one group whose first count is held above its last: with rings across it, or without any short way round."""
+    lines = [f"count {5 if i == 0 else -1000}..{4 if i == n - 1 else 1000}" for i in range(n)]
+    pairs = [(i, i + 1) for i in range(n - 1)]
+    while len(pairs) < m:
+        i = chance.randrange(n - 1)
+        pairs.append((i, i + 1) if is_long else tuple(chance.sample(range(n), 2)))
+    return "\n".join(lines + [f"tie c{i} = c{j}" for i, j in pairs]) + "\n"
+
+
+def faulty(chance):
+    """A lawful job with one field out of its range."""
+    lines = lawful(chance).splitlines()
+    high, many = chance.choice((LIMIT + 1, 2**31 - 1)), sum(line.startswith("count") for line in lines)
+    lines.insert(
+        chance.randint(0, len(lines)),
+        chance.choice(
+            (
+                f"count extra 0..{high}",
+                f"count extra {-high}..0",
+                f"count extra 0..1 weight {chance.choice((-1, 1)) * chance.randint(1_000_001, 2_000_000)}",
+                f"tie c0 + c{many + chance.randint(0, 3)} = 1",
+                "tie 2 c0 + 3 c0 = 1",
+                f"tie {chance.choice((0, 1_000_001, -1_000_001))} c0 + c{many - 1} = 1",
+                f"tie c0 + c{many - 1} = {chance.choice((-1, 1)) * 2_000_000_000_000_001}",
+            )
+        ),
+    )
+    return "\n".join(lines) + "\n"

@@ -1,0 +1,345 @@
+"""An explanation of ./fitplan, read back word by word and judged. Every function gives the faults that it finds."""
+
+import re
+from fractions import Fraction
+
+from . import judge
+
+LIMIT = 1_000_000_000
+NUMBER = r"-?[\d,]*\d"
+TERM = re.compile(rf"([-+]?) ?({NUMBER}) x ({NUMBER}) (.+?)(?= [-+] \d[\d,]* x | and [\d,]+ other parts|$)")
+
+
+CHOSEN = re.compile(
+    rf"  A step is worth (.*?)(?: = ({NUMBER}))?"
+    r"(, a gain, so the last|, a loss, so the first|, so all are worth the same, and the last, with the most at (.*),)"
+    r" is chosen: (.*)\.$"
+)
+TOTAL = re.compile(rf"worth ({NUMBER}) = (.*?)(, group by group| and ([\d,]+) other groups that come to ({NUMBER}))$")
+
+
+def value(text):
+    return int(text.replace(",", ""))
+
+
+class Explained:
+    """A job, the lines of its explanation, and what is wrong with them."""
+
+    def __init__(self, job, lines):
+        self.job, self.lines = job, lines
+        self.bounds = [(count.low, count.high) for count in job.counts]
+        self.ties = [(tie.left, tie.right, tie.a, tie.b, tie.c) for tie in job.ties]
+        self.number = {job.name(i): i for i in range(len(job.counts))}
+        self.faults = []
+
+    def hold(self, good, what):
+        if not good:
+            self.faults.append(what)
+
+    def names(self, text):
+        """The counts of a list of names, and how many more are only counted."""
+        shown, _, more = re.match(r"(.*?)( and ([\d,]+) more)?$", text).groups()
+        return [self.number[name] for name in shown.split(", ")], value(more or "0")
+
+    # ---- sums
+
+    def product_sum(self, text, numbers):
+        """The sum of weight x number over the counts that have a weight: each term is right, and the rest comes to what is said."""
+        weights = {i: self.job.counts[i].weight for i in numbers if self.job.counts[i].weight}
+        if text == "0" and not weights:
+            return 0
+        shown, _, many, rest = re.match(rf"(.*?)( and ([\d,]+) other parts that come to ({NUMBER}))?$", text).groups()
+        terms, end = [], 0
+        for found in TERM.finditer(shown):
+            terms.append(found.groups())
+            end = found.end()
+        self.hold(end == len(shown), f"not a sum: {shown}")
+        total = 0
+        for sign, weight, number, name in terms:
+            i, weight = self.number[name], value(weight) * (-1 if sign == "-" else 1)
+            self.hold(weights.pop(i, None) == weight and numbers[i] == value(number), f"term {weight} x {number} {name}")
+            total += weight * value(number)
+        left = sum(weight * numbers[i] for i, weight in weights.items())
+        self.hold(value(many or "0") == len(weights) and value(rest or "0") == left, f"what is left of {text}")
+        return total + left
+
+
+# ---- planned
+
+
+def planned(told, worth):
+    best = [judge.fits(members, told.bounds, told.ties) for members in judge.groups(len(told.bounds), told.ties)]
+    told.hold(None not in best, "planned, and the judge finds no fit-out")
+    if told.faults or not best:
+        told.hold(bool(best) or told.lines == ["planned, worth 0: the job has no counts."], "no counts")
+        return
+    told.hold(told.lines[0] == f"planned, worth {worth:,}.", "the worth of the first line")
+    blocks, last = blocks_of(told)
+    worths = {}
+    for g, lines in blocks.items():
+        worths[g] = group(told, g, best[g], lines)
+    untied(told, best, worths, blocks)
+    total(told, last, worths, worth)
+
+
+def blocks_of(told):
+    """The lines of each group, and the last line."""
+    blocks, here = {}, []
+    for line in told.lines[3:-1]:
+        found = re.match(r"group (\d+): ", line)
+        if found:
+            here = blocks[int(found.group(1))] = []
+        elif re.match(r"[\d,]+ untied counts", line):
+            here = blocks["untied"] = []
+        here.append(line)
+    return {g: lines for g, lines in blocks.items() if g != "untied"}, told.lines[-1]
+
+
+def group(told, g, fits, lines):
+    """The lines on a group; its worth."""
+    title = re.match(rf"group {g}: (.*) \((?:([\d,]+) counts, )?(?:([\d,]+) ties?|untied)\)$", lines[0])
+    shown, more = told.names(title.group(1))
+    ties = sum(tie[0] in fits.members for tie in told.ties)
+    told.hold(shown == fits.members[: len(shown)] and len(shown) + more == len(fits.members), "the counts of a group")
+    told.hold(value(title.group(2) or str(len(fits.members))) == len(fits.members), "how many counts a group has")
+    told.hold(value(title.group(3) or "0") == ties, "how many ties a group has")
+    chosen = several(told, fits, lines) if fits.many > 1 else only_one(told, g, fits, lines)
+    made = re.match(rf"  worth ({NUMBER})(?: = (.*))?$", next(line for line in lines if line.startswith("  worth")))
+    worth = sum(told.job.counts[i].weight * number for i, number in chosen.items())
+    told.hold(value(made.group(1)) == worth, "the worth of a group")
+    if made.group(2):
+        told.hold(told.product_sum(made.group(2), chosen) == worth, "the sum of a group's worth")
+    else:
+        told.hold(not any(told.job.counts[i].weight for i in chosen), "a group's worth has no sum")
+    return worth
+
+
+def several(told, fits, lines):
+    """A group with several fit-outs; the numbers that are chosen."""
+    step = {i: fits.at(1)[i] - number for i, number in fits.at(0).items()}
+    many, moves = re.match(r"  ([\d,]+) fit-outs\. From each to the next: (.*)\.$", lines[1]).groups()
+    told.hold(value(many) == fits.many, "how many fit-outs")
+    for name, move in re.findall(r"(\S.*?) ([-+][\d,]+\d|[-+]\d)(?:, | and |$)", moves.split(" more")[0]):
+        told.hold(step[told.number[name]] == value(move), f"the step of {name}")
+    gain = sum(told.job.counts[i].weight * move for i, move in step.items())
+    said = CHOSEN.match(lines[2])
+    end = -1 if "first" in said.group(3) else 1
+    told.hold(("gain" in said.group(3), "loss" in said.group(3)) == (gain > 0, gain < 0), "gain or loss")
+    told.hold(said.group(4) is None or told.number[said.group(4)] == fits.members[0], "the lowest count")
+    told.hold(told.product_sum(said.group(1), step) == gain == value(said.group(2) or said.group(1)), "what a step is worth")
+    chosen = fits.at(fits.many - 1 if end > 0 else 0)
+    told.hold(numbers(told, said.group(5), chosen), "the chosen numbers")
+    further = re.match(r"  (One more|One before it) would put (.*)\.$", lines[3])
+    told.hold((further.group(1) == "One more") == (end > 0), "one more or one before it")
+    stops(told, further.group(2), fits.at(fits.many if end > 0 else -1))
+    return chosen
+
+
+def numbers(told, text, chosen):
+    """Whether a list of names and numbers is that of the first counts."""
+    shown = re.match(r"(.*?)( and [\d,]+ more)?$", text).group(1)
+    found = [re.match(rf"(.*) ({NUMBER})$", part).groups() for part in re.split(r", (?=\D)", shown)]
+    return [(told.number[name], value(number)) for name, number in found] == list(sorted(chosen.items()))[: len(found)]
+
+
+def stops(told, text, would):
+    """The bounds that the next numbers would break: just these, and none is left out."""
+    broken = {(i, n, "below", told.bounds[i][0]) for i, n in would.items() if n < told.bounds[i][0]}
+    broken |= {(i, n, "above", told.bounds[i][1]) for i, n in would.items() if n > told.bounds[i][1]}
+    parts = text.split(", and ")
+    more = re.match(r"([\d,]+) more counts past a bound$", parts[-1])
+    if more:
+        parts.pop()
+    for part in parts:
+        name, at, side, bound = re.match(rf"(.*) at ({NUMBER}), (below|above) ({NUMBER})$", part).groups()
+        stop = (told.number[name], value(at), side, value(bound))
+        told.hold(stop in broken, f"'{part}' is no stop")
+        broken.discard(stop)
+    told.hold(len(broken) == (value(more.group(1)) if more else 0), "a stop is left out")
+
+
+def only_one(told, g, fits, lines):
+    """A group with one fit-out, and what leaves only it."""
+    chosen = fits.at(0)
+    told.hold(numbers(told, re.match(r"  One fit-out: (.*)\.$", lines[1]).group(1), chosen), "the only fit-out")
+    joins, others = joins_of(told, fits.members)
+    free = {i: (-LIMIT, LIMIT) for i in fits.members}
+    ring = re.match(r"  The tie (.*) \((line|tie) (\d+)\) closes a ring with (?:lines?|ties?) (.*), and leaves only this one\.$", lines[2])
+    if ring:
+        rows = [k for k in others if (told.job.ties[k].line or k) == int(ring.group(3))]
+        told.hold(any(judge.fits(fits.members, free, [told.ties[j] for j in joins] + [told.ties[k]]).many == 1 for k in rows), "the ring")
+        return chosen
+    relaxed = judge.fits(fits.members, free, [told.ties[k] for k in joins])
+    if lines[2] == "  Within ±1,000,000,000 the ties leave only this one.":
+        told.hold(relaxed.many == 1, "the ties leave more than one")
+        return chosen
+    more, less = re.match(r"  One more would put (.*); one less would put (.*)\.$", lines[2]).groups()
+    at = relaxed.at(0)[fits.members[0]], relaxed.at(1)[fits.members[0]] - relaxed.at(0)[fits.members[0]]
+    k = (chosen[fits.members[0]] - at[0]) // at[1]
+    told.hold(relaxed.at(k) == chosen, "the only fit-out is not in the family of its joins")
+    stops(told, more, relaxed.at(k + 1))
+    stops(told, less, relaxed.at(k - 1))
+    return chosen
+
+
+def joins_of(told, members):
+    """The ties of a group that join what the ones before left apart, and the others."""
+    joins, others = [], []
+    for k, tie in enumerate(told.ties):
+        if tie[0] in members:
+            before = judge.groups(len(told.bounds), told.ties[:k])
+            (others if any(tie[0] in one and tie[1] in one for one in before) else joins).append(k)
+    return joins, others
+
+
+def untied(told, best, worths, blocks):
+    """The groups that are told together: untied counts alone."""
+    for g, fits in enumerate(best):
+        if g not in blocks:
+            told.hold(len(fits.members) == 1 and all(tie[0] != fits.members[0] != tie[1] for tie in told.ties), f"group {g} is not told")
+            weight, (low, high) = told.job.counts[fits.members[0]].weight, told.bounds[fits.members[0]]
+            worths[g] = weight * (low if weight < 0 else high)
+
+
+def total(told, last, worths, worth):
+    told.hold(sum(worths.values()) == worth, "the groups do not come to the worth")
+    if len(worths) == 1:
+        told.hold(last == f"worth {worth:,}, that of group 0", "the last line")
+        return
+    said, terms, _, many, rest = TOTAL.match(last).groups()
+    summands = [value(part) for part in terms.replace(" - ", " -").replace(" + ", " ").split()]
+    told.hold(value(said) == worth == sum(summands) + value(rest or "0"), "the sum of the groups")
+    told.hold(len(summands) + value(many or "0") == len(worths), "how many groups")
+
+
+# ---- no fit
+
+
+def no_fit(told, count, tried=None):
+    """The named rows: of the group, alone without a fit-out, and with one when any is left out, or when any of those tried is."""
+    members = next(m for m in judge.groups(len(told.bounds), told.ties) if judge.fits(m, told.bounds, told.ties) is None)
+    told.hold(count == members[0], "the first group without a fit-out is another")
+    told.hold(told.lines[0] == f"no fit at count {count}, the lowest of the first group without a fit-out.", "the first line")
+    rows = [part(told, line) for line in told.lines[3:] if line.startswith("  ")]
+    told.hold(all(row[1][0] in members if row[0] == "tie" else row[1] in members for row in rows), "a row of another group")
+    told.hold(not kept(told, members, rows), "the named rows have a fit-out")
+    for row in rows[:: max(1, len(rows) // (tried or len(rows)))]:
+        told.hold(kept(told, members, [other for other in rows if other != row]), f"{row} can be spared")
+    if not told.lines[-1].startswith("  "):
+        contradiction(told, members, rows, told.lines[-1])
+    else:
+        told.hold(not is_passed_on(told, rows), "that one bound leads past the other is not said")
+
+
+def part(told, line):
+    """A named row: ('tie', tie), ('low', count) or ('high', count)."""
+    found = re.match(rf"  (?:line (\d+)|tie (\d+)): (?:tie )?(.*) = ({NUMBER})$", line)
+    if found:
+        text_line, k, left, side = found.groups()
+        rows = [told.ties[int(k)]] if k else [(t.left, t.right, t.a, t.b, t.c) for t in told.job.ties if t.line == int(text_line)]
+        told.hold(rows[0][4] == value(side) and f"{told.job.name(rows[0][0])}" in left, f"another tie stands at {line}")
+        return "tie", rows[0]
+    name, side, bound = re.match(rf"  (?:line \d+: )?(.*) (at least|at most) ({NUMBER})$", line).groups()
+    kind = "low" if side == "at least" else "high"
+    told.hold(told.bounds[told.number[name]][kind == "high"] == value(bound), f"another bound: {line}")
+    return kind, told.number[name]
+
+
+def kept(told, members, rows, extra=()):
+    """Whether the group has numbers that keep these rows."""
+    bounds = [(-LIMIT, LIMIT)] * len(told.bounds)
+    for kind, i in [row for row in rows if row[0] != "tie"]:
+        low, high = bounds[i]
+        bounds[i] = (told.bounds[i][0], high) if kind == "low" else (low, told.bounds[i][1])
+    for i, low, high in extra:
+        bounds[i] = (max(bounds[i][0], low), min(bounds[i][1], high))
+    ties = [row[1] for row in rows if row[0] == "tie"]
+    return all(judge.fits(together, bounds, ties) for together in judge.groups(len(bounds), ties) if together[0] in members)
+
+
+def is_passed_on(told, rows):
+    """Whether the bounds of two counts contradict each other even in fractions."""
+    ties, bounds = [row[1] for row in rows if row[0] == "tie"], [row for row in rows if row[0] != "tie"]
+    if len(bounds) != 2 or bounds[0][1] == bounds[1][1]:
+        return False
+    lines, left_over = judge.lines_of(sorted({i for tie in ties for i in tie[:2]}), ties)
+    least, most = [], []
+    for kind, i in bounds:
+        first, slope = lines[i]
+        end = (told.bounds[i][kind == "high"] - first) / slope
+        (least if (kind == "low") == (slope > 0) else most).append(end)
+    return not left_over and bool(least and most) and max(least) > min(most)
+
+
+def contradiction(told, members, rows, line):
+    """The line on how they contradict each other is true."""
+    ties = [row[1] for row in rows if row[0] == "tie"]
+    found = re.match(rf"With (.*) (at least|at most) ({NUMBER}) the ties make (.*) (at least|at most) (.*)\.$", line)
+    if found:
+        name, side, bound, other, other_side, end = found.groups()
+        row, end = ("low" if side == "at least" else "high", told.number[name]), fraction(end)
+        told.hold(row in rows and told.bounds[row[1]][side == "at most"] == value(bound), "the bound that is passed on")
+        i = told.number[other]
+        past = (i, -LIMIT, -(-end // 1) - 1) if other_side == "at least" else (i, end // 1 + 1, LIMIT)
+        told.hold(not kept(told, members, [row] + [r for r in rows if r[0] == "tie"], [past]), f"not so: {line}")
+        asked = ("high" if other_side == "at least" else "low", i) in rows
+        told.hold(asked and (end > told.bounds[i][1] if other_side == "at least" else end < told.bounds[i][0]), f"no contradiction: {line}")
+        return
+    found = re.match(rf"(.*) is a multiple of ({NUMBER}), and ({NUMBER}) is not\.$", line)
+    if found:
+        _, _, a, b, c = ties[0]
+        factor = value(found.group(2))
+        told.hold(len(rows) == 1 and a % factor == b % factor == 0 and c == value(found.group(3)) and c % factor != 0, line)
+        return
+    ring_line(told, rows, ties, line)
+
+
+def ring_line(told, rows, ties, line):
+    found = re.match(rf"The ties leave (.*) no number from ({NUMBER}) to ({NUMBER})\.$", line)
+    if found:
+        i = told.number[found.group(1)]
+        told.hold(told.bounds[i] == (value(found.group(2)), value(found.group(3))) and {("low", i), ("high", i)} < set(rows), line)
+        return
+    if line == "The low is above the high.":
+        told.hold(not ties and len(rows) == 2 and rows[0][1] == rows[1][1], line)
+        return
+    members = sorted({i for tie in ties for i in tie[:2]})
+    lines, left_over = judge.lines_of(members, ties)
+    left, right, a, b, c = left_over[0]
+    slope, start = (a * lines[left][k] + b * lines[right][k] for k in (1, 0))
+    found = re.match(r"The others make (.*) = (.*)\.$", line)
+    if found:
+        told.hold(slope == 0 != c - start, line)
+        return
+    name, made = re.match(r"Together the ties make (.*?) (-?[\d,]*\d(?: [\d,]+)?(?:/[\d,]+)?)(?:, which is not whole)?\.$", line).groups()
+    first, step = lines[told.number[name]]
+    told.hold(first + step * (c - start) / slope == fraction(made), line)
+
+
+def fraction(text):
+    """3 1/2, or a whole number."""
+    sign, text = (-1, text[1:]) if text.startswith("-") else (1, text)
+    return sign * sum(Fraction(part.replace(",", "")) for part in text.split())
+
+
+# ---- refused
+
+
+def refused(told, reason, row):
+    told.hold(told.lines[0].startswith(f"refused, reason {reason}: "), "the reason")
+    told.hold(len(told.lines) > 1, "no field is named")
+    for line in told.lines[1:]:
+        field = re.match(rf"  (?:(.*) \(line (\d+)\)|line (\d+)): the (.*?),? is ({NUMBER}), and may be ", line)
+        if reason == 5:
+            count = told.job.counts[row]
+            there = {"low": count.low, "high": count.high, "weight": count.weight}[field.group(4)]
+            limit = 1_000_000 if field.group(4) == "weight" else LIMIT
+            told.hold(told.number[field.group(1)] == row and count.line == int(field.group(2)) and there == value(field.group(5)), line)
+            told.hold(abs(there) > limit and line.endswith(f"{-limit:,} to {limit:,}."), line)
+        elif reason == 7:
+            tie = told.job.ties[row]
+            there, limit = {"a": (tie.a, 1_000_000), "b": (tie.b, 1_000_000), "c": (tie.c, 2 * 10**15)}[field.group(4)[-1]]
+            told.hold(tie.line == int(field.group(3)) and there == value(field.group(5)) and (there == 0 or abs(there) > limit), line)
+        else:
+            tie = told.job.ties[row]
+            told.hold(re.match(rf"  line {tie.line}: (there is no count c\d+|the left and the right count are the same)", line), line)

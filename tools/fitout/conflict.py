@@ -1,0 +1,88 @@
+"""A smallest set of ties and bounds that contradict each other: together they leave the group no fit-out, and without any one of them
+it has one. The proved planner is asked about every set."""
+
+from .command import Failure
+from .parts import Group
+
+
+def find(job, answer, tell=lambda tried: None):
+    """The conflict in the group that a "no fit" names, ties first. tell is told after each plan how many have been made."""
+    group = Group(job, answer.map, answer.map.groups[answer.count])
+    search = Search(group, tell)
+    ties, bounds = group.joins + group.others, group.bounds
+    some = search.necessary(ties + bounds)
+    key = nearness(job, ties, job.ties[some.index].left if some.kind == "tie" else some.index)
+    near_ties, near_bounds = sorted(ties, key=key), sorted(bounds, key=key)
+    # what stands first is kept rather: so what is near is named, and not the long way round
+    found = min((search.smallest(order) for order in (sorted(ties + bounds, key=key), near_ties + near_bounds)), key=len)
+    search.check(found)
+    return sorted(found, key=lambda part: (part.kind != "tie", part.index, part.kind == "high"))
+
+
+def nearness(job, ties, start):
+    """A sorting key: how far a part is from a count, by the number of ties between; the ties of the shortest ways first."""
+    neighbours = {}
+    for part in ties:
+        tie = job.ties[part.index]
+        neighbours.setdefault(tie.left, []).append((tie.right, part))
+        neighbours.setdefault(tie.right, []).append((tie.left, part))
+    far, ways, waiting = {start: 0}, set(), [start]
+    for here in waiting:
+        for there, part in neighbours.get(here, []):
+            if there not in far:
+                far[there] = far[here] + 1
+                ways.add(part)
+                waiting.append(there)
+
+    def key(part):
+        if part.kind == "tie":
+            tie = job.ties[part.index]
+            return max(far[tie.left], far[tie.right]), part not in ways, part.index
+        return far[part.index], 0, part.index
+
+    return key
+
+
+class Search:
+    """The search for a smallest contradicting set, and how many plans it has made."""
+
+    def __init__(self, group, tell):
+        self.group, self.tell, self.tried = group, tell, 0
+
+    def contradicts(self, parts):
+        self.tried += 1
+        self.tell(self.tried)
+        return not self.group.has_fit(parts)
+
+    def necessary(self, parts):
+        """The part at which the parts, taken from the first on, begin to contradict each other."""
+        least, most = 1, len(parts)
+        while least < most:
+            middle = (least + most) // 2
+            if self.contradicts(parts[:middle]):
+                most = middle
+            else:
+                least = middle + 1
+        return parts[least - 1]
+
+    def smallest(self, parts):
+        return self.among([], False, parts)
+
+    def among(self, kept, is_new, parts):
+        """Those of the parts that have to stand beside the kept ones: halves are left out together while what remains contradicts
+        itself (QuickXplain, Junker 2004). is_new: the kept ones have grown since they were last tried."""
+        if is_new and self.contradicts(kept):
+            return []
+        if len(parts) == 1:
+            return parts
+        half = (len(parts) + 1) // 2
+        first, second = parts[:half], parts[half:]
+        of_second = self.among(kept + first, True, second)
+        of_first = self.among(kept + of_second, bool(of_second), first)
+        return of_first + of_second
+
+    def check(self, found):
+        """Every removal is tried: what is named is a conflict, and none of it can be spared."""
+        spared = [[other for other in found if other != part] for part in found]
+        if not self.contradicts(found) or any(self.contradicts(rest) for rest in spared):
+            raise Failure("what was found is not a smallest conflict: this is a fault of the command, not of the job")
