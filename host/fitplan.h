@@ -14,9 +14,10 @@
  *   - there is room on the stack: a call takes some 36 kB;
  *   - the ABI's rules hold, without an operating system too: stack alignment, red zone, SSE2 on.
  *
- * What the host can rely on: a job may be any bytes at all; every call returns, keeps within its
- * buffers and allocates nothing. No state is kept: any number of calls can be made, in any threads,
- * as long as each has its own buffers. The archive asks for memcpy and memset, and nothing else.
+ * What the host can rely on: a job may be any bytes at all; given that stack every call returns,
+ * keeps within its buffers and allocates nothing. No state is kept: any number of calls can be made,
+ * in any threads, as long as each has its own buffers. The archive asks for memcpy and memset, and
+ * nothing else.
  *
  *
  * THE BYTES

@@ -49,6 +49,7 @@ fn main() -> ExitCode {
     let words: Vec<String> = std::env::args().skip(1).collect();
     let words: Vec<&str> = words.iter().map(String::as_str).collect();
     let done = match words[..] {
+        ["--help"] => io::stdout().write_all(format!("{USAGE}\n").as_bytes()).map(|()| true),
         ["plan"] => plan_input(),
         ["compare", program, ref rest @ ..] => compare_with(Kind::Mixed, program, rest),
         ["spoiled", program, ref rest @ ..] => compare_with(Kind::Spoiled, program, rest),

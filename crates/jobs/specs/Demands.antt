@@ -39,7 +39,7 @@ KeptFrom n (some area) none = ⊥
 KeptFrom n none (some after) = ⊥
 KeptFrom n none none = Unit {0}
 
--- an area that is not lent leaves as it came
+-- an area that is not lent stays as it was
 abbrev pub UntouchedUnless : Bool → List ℕ → List ℕ → Type 0
 UntouchedUnless lent before after = lent ≡ false → after ≡ before
 

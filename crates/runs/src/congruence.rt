@@ -15,7 +15,7 @@ pub struct Congruence {
     pub d: i64,
 }
 
-/// Its solutions: none, or a class whose first number is the least that is not negative, and whose step is the period.
+/// Its solutions: none, or the numbers of one class, starting at the least non-negative one, in steps of the period.
 pub enum Solutions {
     Nothing,
     Every(Class),
