@@ -1,0 +1,124 @@
+"""What the checks of tools/export and tools/draw share: a tally, a command that is run, pseudo-random jobs as text."""
+
+import pathlib
+import random
+import subprocess
+import sys
+
+from fitout import source
+
+ROOT = pathlib.Path(__file__).resolve().parents[2]
+NAMES = ("cards", "extensions", "ringing units", "cords", "and", "let", "true", "E9", "Läutewerke", "trunk lines B2", "a_b", "Weckruf früh")
+
+
+class Tally:
+    """Counts what passed, and shows what failed."""
+
+    def __init__(self, label):
+        self.label, self.passed, self.failed = label, 0, 0
+
+    def tell(self, good, what):
+        """Count a check; what it is, is shown where it failed."""
+        if good:
+            self.passed += 1
+        else:
+            self.failed += 1
+            print(f"{self.label}: failed: {what}", flush=True)
+
+    def end(self):
+        print(f"{self.label}: {self.passed} passed, {self.failed} failed")
+        return 1 if self.failed else 0
+
+
+def run(words, given=b""):
+    """A command in Python of the repository, run from its root: status, output, messages."""
+    ran = subprocess.run([sys.executable, *words], input=given, capture_output=True, cwd=ROOT, check=False)
+    return ran.returncode, ran.stdout, ran.stderr.decode()
+
+
+def full_device(command):
+    """The status and the messages of a command whose output cannot be written; None where the machine has no such device."""
+    if not pathlib.Path("/dev/full").exists():
+        return None
+    with open("/dev/full", "wb") as full:
+        ran = subprocess.run(command, stdout=full, stderr=subprocess.PIPE, cwd=ROOT, check=False)
+    return ran.returncode, ran.stderr.decode()
+
+
+def example_texts():
+    return sorted((ROOT / "examples").glob("*.txt"))
+
+
+def read(text):
+    """The job of a text that has no faults."""
+    return source.read_text(text.encode(), "a job of the check")[0]
+
+
+# ---- small jobs, whose fit-outs a plain search finds
+
+
+def small_job(chance):
+    """Few counts with small ranges and a name or none, and some ties."""
+    n = chance.randint(2, 5)
+    names = [name if chance.random() < 0.6 else "" for name in chance.sample(NAMES, n)]
+    numbers, lines = [], []
+    for name in names:
+        low = chance.randint(-6, 6)
+        high = low + chance.randint(0, 9 if n < 4 else 5) - (chance.random() < 0.01) * 20
+        numbers.append(chance.randint(low, max(low, high)))
+        weight = chance.choice((0, chance.randint(-9, 9), chance.randint(-1000, 1000)))
+        lines.append(f"count {name} {low}..{high} weight {weight}")
+    called = [name or f"c{i}" for i, name in enumerate(names)]
+    for _ in range(chance.randint(1, 5)):
+        lines.append(tie(chance, called, numbers, *chance.sample(range(n), 2), 4, 0.08))
+    return "\n".join(lines) + "\n"
+
+
+def tie(chance, called, numbers, left, right, largest, wrong=0.0):
+    """A tie that the numbers keep, but for the share of those that are wrong."""
+    a, b = (chance.choice((-1, 1)) * chance.randint(1, largest) for _ in range(2))
+    side = a * numbers[left] + b * numbers[right] + (chance.random() < wrong) * chance.randint(-3, 3)
+    return f"tie {a} {called[left]} + {b} {called[right]} = {side}"
+
+
+def small_jobs(seed, many):
+    chance = random.Random(seed)
+    return [small_job(chance) for _ in range(many)]
+
+
+# ---- larger ones, by how they hang together
+
+
+def joined(n, pairs, largest=3, seed=1, wrong=0.0, spread=50):
+    """A job of n counts with a tie for each pair."""
+    chance = random.Random(seed)
+    numbers = [chance.randint(-spread, spread) for _ in range(n)]
+    names = [f"{chance.choice(NAMES)} {chr(97 + i % 26)}{i}" if chance.random() < 0.3 else "" for i in range(n)]
+    lines = []
+    for name, number in zip(names, numbers):
+        low, high = number - chance.randint(0, 9 * spread), number + chance.randint(0, 9 * spread)
+        lines.append(f"count {name} {low}..{high} weight {chance.randint(-99, 99)}")
+    called = [name or f"c{i}" for i, name in enumerate(names)]
+    lines += [tie(chance, called, numbers, left, right, largest, wrong) for left, right in pairs]
+    return "\n".join(lines) + "\n"
+
+
+def tree(n, rings, seed, back=0):
+    """The pairs of a random tree, each count joined to one of the `back` counts before it or to any, and of some rings."""
+    chance = random.Random(seed)
+    pairs = [(chance.randint(max(0, i - back) if back else 0, i - 1), i) for i in range(1, n)]
+    return pairs + [tuple(chance.sample(range(n), 2)) for _ in range(rings)]
+
+
+def chain(n, rings=0, seed=1):
+    return tree(n, rings, seed, back=1)
+
+
+def star(n, centre=0):
+    return [(centre, i) for i in range(n) if i != centre]
+
+
+def fours(n):
+    """Groups of four: chains and stars, some of them rings."""
+    shapes = ([(0, 1), (1, 2), (2, 3)], [(0, 1), (0, 2), (0, 3)], [(0, 1), (1, 2), (2, 3), (3, 0)])
+    return [(first + p, first + q) for first in range(0, n, 4) for p, q in shapes[first // 4 % 3]]

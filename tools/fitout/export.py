@@ -1,0 +1,129 @@
+"""A job for other solvers: as an LP file, which GLPK and CBC read, and as SMT-LIB with z3's maximize."""
+
+import re
+
+from .job import NUMBER_LIMIT
+from .wording import count_place, equation, number, plural, tie_place
+
+WIDTH = 100  # readers of LP files take no line of more than some hundred letters
+SIMPLE = re.compile(r"[A-Za-z][A-Za-z0-9_]*")
+# what SMT-LIB, or z3, has a meaning for already
+RESERVED = frozenset("as let par match forall exists true false not and or xor ite if implies distinct abs div mod rem "
+                  "BINARY DECIMAL HEXADECIMAL NUMERAL STRING".split())  # fmt: skip
+
+
+def wrapped(head, words, tail=""):
+    """Words behind a head, on lines that are not too long."""
+    lines = [head]
+    for word in words:
+        if len(lines[-1]) + 1 + len(word) > WIDTH:
+            lines.append("  ")
+        lines[-1] += " " + word
+    return [*lines[:-1], lines[-1] + tail]
+
+
+def about(job, answer):
+    """What the file is, for its head."""
+    found = f"worth {number(answer.worth)}" if answer.kind == "planned" else f"no fit at count {answer.count}"
+    return [
+        f"A job of {plural(len(job.counts), 'count')} and {plural(len(job.ties), 'tie')}, written by Montebay's tools/export.",
+        "Wanted: whole numbers within the bounds that keep every tie, of greatest worth.",
+        f"The fit-out planner's answer: {found}.",
+    ]
+
+
+# ---- LP
+
+
+def lp_name(job, i):
+    """c2, or c2_ringing_units: letters and digits that every reader takes."""
+    name = job.counts[i].name
+    return f"c{i}" if name in ("", f"c{i}") else f"c{i}_" + re.sub("[^A-Za-z0-9_]", "_", name)
+
+
+def lp_sum(terms):
+    """Coefficients and names as the words of a sum."""
+    words = [f"{'-' if coefficient < 0 else '+'} {abs(coefficient)} {name}" for coefficient, name in terms]
+    return [words[0].removeprefix("+ "), *words[1:]]
+
+
+def lp_ties(job, names):
+    lines = []
+    for k, tie in enumerate(job.ties):
+        if tie.line:
+            lines.append(f"\\ {tie_place(job, k)}: {equation(job, tie)}")
+        lines += wrapped(f" tie{k}:", lp_sum([(tie.a, names[tie.left]), (tie.b, names[tie.right])]), f" = {tie.c}")
+    return lines
+
+
+def lp_bounds(job, names):
+    """The rows and the bounds that keep every count from its low to its high. GLPK takes no bounds with the low above the high: these
+    are rows."""
+    rows, bounds = [], []
+    for i, count in enumerate(job.counts):
+        low, high = count.low, count.high
+        if low > high:
+            rows += [f" low{i}: {names[i]} >= {low}", f" high{i}: {names[i]} <= {high}"]
+            low, high = -NUMBER_LIMIT, NUMBER_LIMIT
+        bounds.append(f" {low} <= {names[i]} <= {high}")
+    return rows, bounds
+
+
+def lp(job, answer):
+    """The job as an LP file."""
+    names = [lp_name(job, i) for i in range(len(job.counts))]
+    rows, bounds = lp_bounds(job, names)
+    rows = lp_ties(job, names) + rows
+    weights = [(count.weight, name) for count, name in zip(job.counts, names)]
+    notes = about(job, answer)
+    if not rows:  # GLPK asks for a row
+        rows, bounds, weights = [" none: nothing = 0"], [*bounds, " 0 <= nothing <= 0"], [*weights, (0, "nothing")]
+        notes.append("There is no tie, and a file needs a row: so there is a column 'nothing', which is 0.")
+    notes.append("Solvers that read this reckon in floating point, and can be wrong where numbers are large.")
+    notes += [f"{name}: {count.name}" for count, name in zip(job.counts, names) if not name.endswith(count.name)]
+    lines = [f"\\ {note}" for note in notes]
+    lines += ["Maximize", *wrapped(" worth:", lp_sum(weights)), "Subject To", *rows, "Bounds", *bounds]
+    return "\n".join([*lines, "General", *wrapped("", (name for _, name in weights)), "End", ""])
+
+
+# ---- SMT-LIB
+
+
+def smt_name(job, i):
+    """A count's own name, quoted where it is no plain word; with its number where the solver has a meaning for the word."""
+    name = job.name(i)
+    if name in RESERVED:
+        return f"|{name} (c{i})|"  # no other name has brackets
+    return name if SIMPLE.fullmatch(name) else f"|{name}|"
+
+
+def smt_number(value):
+    return str(value) if value >= 0 else f"(- {-value})"
+
+
+def smt_term(coefficient, name):
+    if abs(coefficient) == 1:
+        return name if coefficient > 0 else f"(- {name})"
+    return f"(* {smt_number(coefficient)} {name})"
+
+
+def smt_worth(job, names):
+    """The sum of weight * number, as lines."""
+    terms = [smt_term(count.weight, name) for count, name in zip(job.counts, names) if count.weight]
+    if len(terms) < 2:
+        return [f"(maximize {''.join(terms) or 0})"]
+    return wrapped("(maximize (+", terms, "))")
+
+
+def smt(job, answer):
+    """The job as SMT-LIB 2."""
+    names = [smt_name(job, i) for i in range(len(job.counts))]
+    lines = [f"; {note}" for note in about(job, answer)]
+    lines += ["; z3 FILE solves it; (get-model) at the end shows the numbers too.", "(set-option :produce-models true)"]
+    lines += [f"(declare-const {name} Int)" for name in names]
+    for i, count in enumerate(job.counts):
+        lines.append(f"(assert (<= {smt_number(count.low)} {names[i]} {smt_number(count.high)})) ; {count_place(job, i)}")
+    for k, tie in enumerate(job.ties):
+        left, right = smt_term(tie.a, names[tie.left]), smt_term(tie.b, names[tie.right])
+        lines.append(f"(assert (= (+ {left} {right}) {smt_number(tie.c)})) ; {tie_place(job, k)}")
+    return "\n".join([*lines, *smt_worth(job, names), "(check-sat)", "(get-objectives)", ""])
