@@ -1,7 +1,9 @@
 """A smallest set of ties and bounds that contradict each other: together they leave the group no fit-out, and without any one of them
 it has one. The proved planner is asked about every set."""
 
-from .command import Failure
+import time
+
+from .command import Failure, say
 from .parts import Group
 
 
@@ -86,3 +88,15 @@ class Search:
         spared = [[other for other in found if other != part] for part in found]
         if not self.contradicts(found) or any(self.contradicts(rest) for rest in spared):
             raise Failure("what was found is not a smallest conflict: this is a fault of the command, not of the job")
+
+
+class Progress:
+    """Says how many plans have been tried, once a second, from the first second on."""
+
+    def __init__(self, label):
+        self.label, self.next = label, time.monotonic() + 1
+
+    def __call__(self, tried):
+        if time.monotonic() >= self.next:
+            say(self.label, f"looking for what contradicts what: {tried:,} plans tried")
+            self.next += 1

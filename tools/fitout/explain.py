@@ -1,9 +1,6 @@
 """A plan, a "no fit" or a refusal, in words: from the job, the sheet and the map, with the proved planner as the only judge."""
 
-import time
-
 from . import conflict, contradiction, groups, refusal
-from .command import say
 from .wording import listed, number, signed_sum
 
 MOST_UNTIED = 12  # that are told one by one
@@ -68,23 +65,12 @@ def total(job, answer):
 
 
 def no_fit(job, answer):
-    found = conflict.find(job, answer, Progress())
+    found = conflict.find(job, answer, conflict.Progress("fitplan"))
     group = answer.map.groups[answer.count]
     lines = [f"no fit at count {answer.count}, the lowest of the first group without a fit-out.", groups.title(job, answer.map, group)]
     if len(found) == 1:
         lines.append("No whole numbers within ±1,000,000,000 keep this:")
     else:
-        lines.append("These contradict each other, in whole numbers within ±1,000,000,000. Without any one of them the group has a fit-out:")
+        whole = "in whole numbers within ±1,000,000,000"
+        lines.append(f"These contradict each other, {whole}. Without any one of them the group has a fit-out:")
     return [*lines, *(f"  {part.words(job)}" for part in found), *contradiction.words(job, found)]
-
-
-class Progress:
-    """Says how many plans have been tried, once a second, from the first second on."""
-
-    def __init__(self):
-        self.next = time.monotonic() + 1
-
-    def __call__(self, tried):
-        if time.monotonic() >= self.next:
-            say("fitplan", f"looking for what contradicts what: {tried:,} plans tried")
-            self.next += 1
