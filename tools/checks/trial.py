@@ -8,7 +8,7 @@ import sys
 from fitout import source
 
 ROOT = pathlib.Path(__file__).resolve().parents[2]
-NAMES = ("cards", "extensions", "ringing units", "cords", "and", "let", "true", "E9", "Läutewerke", "trunk lines B2", "a_b", "Weckruf früh")
+NAMES = ("cards", "extensions", "ringing units", "cords", "and", "let", "true", "E9", "Läutewerke", "trunk lines B2", "a_b", "früh")
 
 
 class Tally:

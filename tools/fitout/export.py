@@ -6,10 +6,6 @@ from .job import NUMBER_LIMIT
 from .wording import count_place, equation, number, plural, tie_place
 
 WIDTH = 100  # readers of LP files take no line of more than some hundred letters
-SIMPLE = re.compile(r"[A-Za-z][A-Za-z0-9_]*")
-# what SMT-LIB, or z3, has a meaning for already
-RESERVED = frozenset("as let par match forall exists true false not and or xor ite if implies distinct abs div mod rem "
-                  "BINARY DECIMAL HEXADECIMAL NUMERAL STRING".split())  # fmt: skip
 
 
 def wrapped(head, words, tail=""):
@@ -22,23 +18,24 @@ def wrapped(head, words, tail=""):
     return [*lines[:-1], lines[-1] + tail]
 
 
-def about(job, answer):
-    """What the file is, for its head."""
+def names_of(job):
+    """c2, or c2_ringing_units: letters that every reader takes, in words for which none has a meaning of its own."""
+    named = [(f"c{i}", count.name) for i, count in enumerate(job.counts)]
+    return [number if name in ("", number) else f"{number}_" + re.sub("[^A-Za-z0-9_]", "_", name) for number, name in named]
+
+
+def about(job, answer, names):
+    """What the file is and how its counts are called, for its head."""
     found = f"worth {number(answer.worth)}" if answer.kind == "planned" else f"no fit at count {answer.count}"
     return [
         f"A job of {plural(len(job.counts), 'count')} and {plural(len(job.ties), 'tie')}, written by Montebay's tools/export.",
         "Wanted: whole numbers within the bounds that keep every tie, of greatest worth.",
         f"The fit-out planner's answer: {found}.",
+        *(f"{name}: {count.name}" for count, name in zip(job.counts, names) if not name.endswith(count.name)),
     ]
 
 
 # ---- LP
-
-
-def lp_name(job, i):
-    """c2, or c2_ringing_units: letters and digits that every reader takes."""
-    name = job.counts[i].name
-    return f"c{i}" if name in ("", f"c{i}") else f"c{i}_" + re.sub("[^A-Za-z0-9_]", "_", name)
 
 
 def lp_sum(terms):
@@ -71,30 +68,21 @@ def lp_bounds(job, names):
 
 def lp(job, answer):
     """The job as an LP file."""
-    names = [lp_name(job, i) for i in range(len(job.counts))]
+    names = names_of(job)
     rows, bounds = lp_bounds(job, names)
     rows = lp_ties(job, names) + rows
     weights = [(count.weight, name) for count, name in zip(job.counts, names)]
-    notes = about(job, answer)
+    notes = about(job, answer, names)
     if not rows:  # GLPK asks for a row
         rows, bounds, weights = [" none: nothing = 0"], [*bounds, " 0 <= nothing <= 0"], [*weights, (0, "nothing")]
         notes.append("There is no tie, and a file needs a row: so there is a column 'nothing', which is 0.")
     notes.append("Solvers that read this reckon in floating point, and can be wrong where numbers are large.")
-    notes += [f"{name}: {count.name}" for count, name in zip(job.counts, names) if not name.endswith(count.name)]
     lines = [f"\\ {note}" for note in notes]
     lines += ["Maximize", *wrapped(" worth:", lp_sum(weights)), "Subject To", *rows, "Bounds", *bounds]
     return "\n".join([*lines, "General", *wrapped("", (name for _, name in weights)), "End", ""])
 
 
 # ---- SMT-LIB
-
-
-def smt_name(job, i):
-    """A count's own name, quoted where it is no plain word; with its number where the solver has a meaning for the word."""
-    name = job.name(i)
-    if name in RESERVED:
-        return f"|{name} (c{i})|"  # no other name has brackets
-    return name if SIMPLE.fullmatch(name) else f"|{name}|"
 
 
 def smt_number(value):
@@ -117,8 +105,8 @@ def smt_worth(job, names):
 
 def smt(job, answer):
     """The job as SMT-LIB 2."""
-    names = [smt_name(job, i) for i in range(len(job.counts))]
-    lines = [f"; {note}" for note in about(job, answer)]
+    names = names_of(job)
+    lines = [f"; {note}" for note in about(job, answer, names)]
     lines += ["; z3 FILE solves it; (get-model) at the end shows the numbers too.", "(set-option :produce-models true)"]
     lines += [f"(declare-const {name} Int)" for name in names]
     for i, count in enumerate(job.counts):

@@ -73,6 +73,8 @@ def read_text(data, shown):
         line = data.count(b"\n", 0, error.start) + 1
         raise Failure(f"{shown}:{line}: is not text in UTF-8: byte {data[error.start]:#04x}") from None
     job, faults, warnings = text.read(decoded)
+    if len(faults) > 3 and not text.is_job(decoded):
+        raise Failure(f"{shown}: is not a job: no line begins with count or tie (tools/pack --help tells how a job is written)")
     if faults:
         told = [f"{shown}:{line}: {fault}" for line, fault in faults[:MOST_FAULTS]]
         more = [f"{shown}: and {len(faults) - MOST_FAULTS:,} more faults"] if len(faults) > MOST_FAULTS else []

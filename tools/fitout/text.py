@@ -306,7 +306,8 @@ class Reader:
         terms = [(coefficient, self.number(name)) for coefficient, name in sums.terms]
         if len(terms) != 2:
             names = listed(name for _, name in sums.terms)
-            raise Fault(f"a tie names two counts, and this one names {('none', f'only {names}')[len(terms)] if len(terms) < 2 else names}")
+            named = ("none", f"only {names}: its bounds can hold it, as LOW..HIGH", names)[min(len(terms), 2)]
+            raise Fault(f"a tie names two counts, and this one names {named}")
         (a, left), (b, right) = terms
         row = Tie(left, right, a, b, sums.number, line)
         if len(self.ties) + times > U16[1]:
@@ -331,6 +332,11 @@ class Reader:
         note = (line, words + (f"; the planner refuses this, reason {reason}" if reason else ""))
         if note not in self.warnings:  # rows alike have one
             self.warnings.append(note)
+
+
+def is_job(text):
+    """Whether some line begins like one of a job."""
+    return any(line.split()[:1] in (["count"], ["tie"]) for line in text.splitlines())
 
 
 def read(text):
