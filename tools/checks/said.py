@@ -7,7 +7,7 @@ from . import judge
 
 LIMIT = 1_000_000_000
 NUMBER = r"-?[\d,]*\d"
-TERM = re.compile(rf"([-+]?) ?({NUMBER}) x ({NUMBER}) (.+?)(?= [-+] \d[\d,]* x | and [\d,]+ other parts|$)")
+TERM = re.compile(rf"([-+]?) ?({NUMBER}) x ({NUMBER}) (.+?)(?= [-+] \d[\d,]* (?:x|from) |$)")
 
 
 CHOSEN = re.compile(
@@ -15,7 +15,7 @@ CHOSEN = re.compile(
     r"(, a gain, so the last|, a loss, so the first|, so all are worth the same, and the last, with the most at (.*),)"
     r" is chosen: (.*)\.$"
 )
-TOTAL = re.compile(rf"worth ({NUMBER}) = (.*?)(, group by group| and ([\d,]+) other groups that come to ({NUMBER}))$")
+SUMMAND = re.compile(r"(-?)([\d,]*\d) \((?:group (\d+)|(untied counts)|([\d,]+) others)\)")
 
 
 def value(text):
@@ -48,7 +48,8 @@ class Explained:
         weights = {i: self.job.counts[i].weight for i in numbers if self.job.counts[i].weight}
         if text == "0" and not weights:
             return 0
-        shown, _, many, rest = re.match(rf"(.*?)( and ([\d,]+) other parts that come to ({NUMBER}))?$", text).groups()
+        shown, _, sign, rest, many = re.match(r"(.*?)( ([-+]) ([\d,]*\d) from ([\d,]+) others)?$", text).groups()
+        rest = (sign or "").replace("+", "") + (rest or "0")
         terms, end = [], 0
         for found in TERM.finditer(shown):
             terms.append(found.groups())
@@ -60,7 +61,7 @@ class Explained:
             self.hold(weights.pop(i, None) == weight and numbers[i] == value(number), f"term {weight} x {number} {name}")
             total += weight * value(number)
         left = sum(weight * numbers[i] for i, weight in weights.items())
-        self.hold(value(many or "0") == len(weights) and value(rest or "0") == left, f"what is left of {text}")
+        self.hold(value(many or "0") == len(weights) and value(rest) == left, f"what is left of {text}")
         return total + left
 
 
@@ -202,14 +203,24 @@ def untied(told, best, worths, blocks):
 
 
 def total(told, last, worths, worth):
+    """The last line: each summand is that of its group, and together they are the worth."""
     told.hold(sum(worths.values()) == worth, "the groups do not come to the worth")
-    if len(worths) == 1:
-        told.hold(last == f"worth {worth:,}, that of group 0", "the last line")
-        return
-    said, terms, _, many, rest = TOTAL.match(last).groups()
-    summands = [value(part) for part in terms.replace(" - ", " -").replace(" + ", " ").split()]
-    told.hold(value(said) == worth == sum(summands) + value(rest or "0"), "the sum of the groups")
-    told.hold(len(summands) + value(many or "0") == len(worths), "how many groups")
+    front = f"worth {worth:,} = "
+    told.hold(last.startswith(front), "the worth of the last line")
+    blocks = {g: one for g, one in worths.items() if f"group {g}: " in "\n".join(told.lines)}
+    together = [sum(one for g, one in worths.items() if g not in blocks)] if len(blocks) < len(worths) else []
+    parts = SUMMAND.findall(last.removeprefix(front).replace(" + ", " ").replace(" - ", " -"))
+    found = 0
+    for sign, size, group, untied_counts, others in parts:
+        one = value(sign + size)
+        found += one
+        if group:
+            told.hold(blocks.pop(int(group), None) == one, f"the worth of group {group} in the sum")
+        elif untied_counts:
+            told.hold(together and one == together.pop(), "the worth of the untied counts in the sum")
+        else:
+            told.hold(value(others) == len(blocks) + len(together), "how many others")
+    told.hold(found == worth, "the sum of the last line")
 
 
 # ---- no fit
@@ -225,10 +236,11 @@ def no_fit(told, count, tried=None):
     told.hold(not kept(told, members, rows), "the named rows have a fit-out")
     for row in rows[:: max(1, len(rows) // (tried or len(rows)))]:
         told.hold(kept(told, members, [other for other in rows if other != row]), f"{row} can be spared")
-    if not told.lines[-1].startswith("  "):
-        contradiction(told, members, rows, told.lines[-1])
+    if not told.lines[-2].startswith("  "):
+        contradiction(told, members, rows, told.lines[-2])
     else:
         told.hold(not is_passed_on(told, rows), "that one bound leads past the other is not said")
+    cure(told, members, rows[:: max(1, len(rows) // (tried or len(rows)))], told.lines[-1])
 
 
 def part(told, line):
@@ -255,6 +267,29 @@ def kept(told, members, rows, extra=()):
         bounds[i] = (max(bounds[i][0], low), min(bounds[i][1], high))
     ties = [row[1] for row in rows if row[0] == "tie"]
     return all(judge.fits(together, bounds, ties) for together in judge.groups(len(bounds), ties) if together[0] in members)
+
+
+def cure(told, members, rows, line):
+    """What the last line says of leaving out one row of the whole group."""
+    ties = [("tie", tie) for tie in told.ties if tie[0] in members]
+    every = ties + [(kind, i) for i in members for kind in ("low", "high")]
+    cured = [row for row in rows if kept(told, members, without(every, row))]
+    if line in ("Without it the group has a fit-out.", "Without any one of them the group has a fit-out."):
+        told.hold(cured == rows and ("it " in line) == (len(rows) == 1), line)
+        return
+    told.hold(cured != rows, "every removal would help")
+    if line != "The group has other conflicts too: leaving out one of these alone gives it no fit-out.":
+        named = re.match(r"The group has other conflicts too\. (One row|Any one of these rows) gives it a fit-out when left out: (.*)\.$", line)
+        first = re.split(r", (?=\D)| and [\d,]+ more$", named.group(2))[0]
+        told.hold(kept(told, members, without(every, part(told, "  " + first))), f"it does not help: {first}")
+    else:
+        told.hold(not cured, "a removal would help")
+
+
+def without(rows, row):
+    """The rows with one of those equal to a row left out."""
+    at = rows.index(row)
+    return rows[:at] + rows[at + 1 :]
 
 
 def is_passed_on(told, rows):
@@ -311,7 +346,7 @@ def ring_line(told, rows, ties, line):
     if found:
         told.hold(slope == 0 != c - start, line)
         return
-    name, made = re.match(r"Together the ties make (.*?) (-?[\d,]*\d(?: [\d,]+)?(?:/[\d,]+)?)(?:, which is not whole)?\.$", line).groups()
+    name, made = re.match(r"Together the ties make (.*?) = (-?[\d,]*\d(?: [\d,]+)?(?:/[\d,]+)?)(?:, which is not whole)?\.$", line).groups()
     first, step = lines[told.number[name]]
     told.hold(first + step * (c - start) / slope == fraction(made), line)
 

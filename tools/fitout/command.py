@@ -22,7 +22,8 @@ def run(name, usage, act):
     """Run a command: act is given its words and gives its status; it may raise Failure and WrongArguments."""
     words = sys.argv[1:]
     try:
-        if "--help" in words or "-h" in words:
+        before = words[: words.index("--")] if "--" in words else words
+        if "--help" in before or "-h" in before:
             write(usage.strip() + "\n")
             return 0
         return act(words)

@@ -8,17 +8,8 @@ from .parts import Group
 
 
 def find(job, answer, tell=lambda tried: None):
-    """The conflict in the group that a "no fit" names, ties first. tell is told after each plan how many have been made."""
-    group = Group(job, answer.map, answer.map.groups[answer.count])
-    search = Search(group, tell)
-    ties, bounds = group.joins + group.others, group.bounds
-    some = search.necessary(ties + bounds)
-    key = nearness(job, ties, job.ties[some.index].left if some.kind == "tie" else some.index)
-    near_ties, near_bounds = sorted(ties, key=key), sorted(bounds, key=key)
-    # what stands first is kept rather: so what is near is named, and not the long way round
-    found = min((search.smallest(order) for order in (sorted(ties + bounds, key=key), near_ties + near_bounds)), key=len)
-    search.check(found)
-    return sorted(found, key=lambda part: (part.kind != "tie", part.index, part.kind == "high"))
+    """The conflict in the group that a "no fit" names. tell is told after each plan how many have been made."""
+    return Search(job, answer, tell).find()
 
 
 def nearness(job, ties, start):
@@ -46,10 +37,28 @@ def nearness(job, ties, start):
 
 
 class Search:
-    """The search for a smallest contradicting set, and how many plans it has made."""
+    """The search in the group that a "no fit" names, and how many plans it has made."""
 
-    def __init__(self, group, tell):
-        self.group, self.tell, self.tried = group, tell, 0
+    def __init__(self, job, answer, tell):
+        self.job, self.tell, self.tried = job, tell, 0
+        self.group = Group(job, answer.map, answer.map.groups[answer.count])
+        self.ties, self.bounds = self.group.joins + self.group.others, self.group.bounds
+
+    def find(self):
+        """A smallest conflict, ties first."""
+        every, ties = self.ties + self.bounds, self.job.ties
+        some = self.necessary(every)
+        key = nearness(self.job, self.ties, ties[some.index].left if some.kind == "tie" else some.index)
+        # what stands first is kept rather: so what is near is named, and not the long way round
+        orders = sorted(every, key=key), sorted(self.ties, key=key) + sorted(self.bounds, key=key)
+        found = min((self.smallest(order) for order in orders), key=len)
+        self.check(found)
+        return sorted(found, key=lambda part: (part.kind != "tie", part.index, part.kind == "high"))
+
+    def cures(self, found):
+        """Those parts of a conflict without which the whole group has a fit-out: where there are other conflicts, not all of them."""
+        every = self.ties + self.bounds
+        return [part for part in found if not self.contradicts([other for other in every if other != part])]
 
     def contradicts(self, parts):
         self.tried += 1

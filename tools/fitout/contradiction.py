@@ -62,10 +62,10 @@ def ring(job, numbers, tie, bounds):
     made = {i: start + step * at for i, (start, step) in sorted(numbers.items())}
     for i, value in made.items():
         if value.denominator != 1:
-            return [f"Together the ties make {job.name(i)} {whole(value)}, which is not whole."]
+            return [f"Together the ties make {job.name(i)} = {whole(value)}, which is not whole."]
     for i, value in made.items():
         if abs(value) > NUMBER_LIMIT or any(breaks(job, bound, value) for bound in bounds if bound.index == i):
-            return [f"Together the ties make {job.name(i)} {whole(value)}."]
+            return [f"Together the ties make {job.name(i)} = {whole(value)}."]
     return []
 
 

@@ -255,9 +255,9 @@ class Picture:
             return [(f"worth {number(answer.worth)}", 20, "heading"), (size, 12, "caption")]
         name = job.name(answer.count)
         first = f"no fit at count {answer.count}" + (f" ({name})" if name != f"c{answer.count}" else "")
-        why = "what is red contradicts itself; without any one of these the group has a fit-out:"
+        why = "what is red contradicts itself, in whole numbers within ±1,000,000,000, and without any one of these the others do not:"
         if len(self.conflict) == 1:
-            why = "no whole numbers keep what is red:"
+            why = "no whole numbers within ±1,000,000,000 keep what is red:"
         parts = [part.words(job) for part in sorted(self.conflict, key=lambda part: part.kind == "tie")]
         told = "; ".join(parts[:4]) + (f"; and {len(parts) - 4} more" if len(parts) > 4 else "")
         return [(first, 20, "heading conflict"), (size, 12, "caption"), (why, 12, "conflict"), (told, 12, "conflict")]

@@ -26,13 +26,16 @@ def planned(job, answer):
     lines = [f"planned, worth {number(answer.worth)}.", best, "(Proved once, for every job: docs/READING.md.)", ""]
     all_groups = range(len(answer.families))
     untied = [g for g in all_groups if len(answer.map.members(g)) == 1 and not answer.map.ties(g)]
-    together = len(untied) > MOST_UNTIED
+    together = untied if len(untied) > MOST_UNTIED else []
+    worths = []
     for group in all_groups:
-        if not (together and group in untied):
+        if group not in together:
             lines += groups.words(job, answer, group)
+            worths.append((groups.worth_of(job, answer, group), f"group {group}"))
     if together:
-        lines += untied_together(job, answer, [answer.map.members(g)[0] for g in untied])
-    return [*lines, "", total(job, answer)]
+        lines += untied_together(job, answer, [answer.map.members(g)[0] for g in together])
+        worths.append((sum(groups.worth_of(job, answer, g) for g in together), "untied counts"))
+    return [*lines, "", total(answer.worth, worths)]
 
 
 def untied_together(job, answer, counts):
@@ -48,29 +51,38 @@ def untied_together(job, answer, counts):
     return [*lines, f"  worth {number(worth)}"]
 
 
-def total(job, answer):
-    """The worths of the groups, and their sum; of many, the largest and the rest."""
-    worths = [(groups.worth_of(job, answer, g), g) for g in range(len(answer.families))]
-    if len(worths) == 1:
-        return f"worth {number(answer.worth)}, that of group 0"
-    shown = sorted(sorted(worths, key=lambda worth: -abs(worth[0]))[:MOST_SUMMANDS], key=lambda worth: worth[1])
-    text = signed_sum((worth, number(abs(worth))) for worth, _ in shown)
+def total(worth, worths):
+    """The worths of what is told above, and their sum; of many, the largest and the rest."""
+    shown = worths
     if len(worths) > MOST_SUMMANDS:
-        rest = sum(worth for worth, _ in worths) - sum(worth for worth, _ in shown)
-        return f"worth {number(answer.worth)} = {text} and {len(worths) - len(shown):,} other groups that come to {number(rest)}"
-    return f"worth {number(answer.worth)} = {text}, group by group"
+        largest = sorted(worths, key=lambda one: -abs(one[0]))[: MOST_SUMMANDS - 1]
+        shown = [one for one in worths if one in largest]
+        rest = sum(one for one, _ in worths) - sum(one for one, _ in shown)
+        shown.append((rest, f"{len(worths) - len(shown):,} others"))
+    return f"worth {number(worth)} = {signed_sum((one, f'{number(abs(one))} ({what})') for one, what in shown)}"
 
 
 # ---- no fit
 
 
 def no_fit(job, answer):
-    found = conflict.find(job, answer, conflict.Progress("fitplan"))
+    search = conflict.Search(job, answer, conflict.Progress("fitplan"))
+    found = search.find()
     group = answer.map.groups[answer.count]
     lines = [f"no fit at count {answer.count}, the lowest of the first group without a fit-out.", groups.title(job, answer.map, group)]
     if len(found) == 1:
         lines.append("No whole numbers within ±1,000,000,000 keep this:")
     else:
         whole = "in whole numbers within ±1,000,000,000"
-        lines.append(f"These contradict each other, {whole}. Without any one of them the group has a fit-out:")
-    return [*lines, *(f"  {part.words(job)}" for part in found), *contradiction.words(job, found)]
+        lines.append(f"These contradict each other, {whole}, and without any one of them the others do not:")
+    return [*lines, *(f"  {part.words(job)}" for part in found), *contradiction.words(job, found), cure(job, found, search.cures(found))]
+
+
+def cure(job, found, cures):
+    """What leaving out one of them would do for the group as a whole."""
+    if len(cures) == len(found):
+        return "Without " + ("it" if len(found) == 1 else "any one of them") + " the group has a fit-out."
+    if not cures:
+        return "The group has other conflicts too: leaving out one of these alone gives it no fit-out."
+    which = "One row gives" if len(cures) == 1 else "Any one of these rows gives"
+    return f"The group has other conflicts too. {which} it a fit-out when left out: {listed((part.words(job) for part in cures), 3)}."

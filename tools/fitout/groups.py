@@ -108,11 +108,11 @@ def product_sum(job, pairs):
         largest = sorted(size, key=lambda i: (-size[i], i))[: MOST_TERMS - 1]
         shown = [(i, value) for i, value in parts if i in largest]
     weights = [(job.counts[i].weight, value, job.name(i)) for i, value in shown]
-    text = signed_sum((weight, f"{number(abs(weight))} x {number(value)} {name}") for weight, value, name in weights)
-    rest = [(i, value) for i, value in parts if (i, value) not in shown]
+    terms = [(weight, f"{number(abs(weight))} x {number(value)} {name}") for weight, value, name in weights]
+    rest = [job.counts[i].weight * value for i, value in parts if (i, value) not in shown]
     if rest:
-        text += f" and {len(rest):,} other parts that come to {number(sum(job.counts[i].weight * value for i, value in rest))}"
-    return text
+        terms.append((sum(rest), f"{number(abs(sum(rest)))} from {len(rest):,} others"))
+    return signed_sum(terms)
 
 
 def numbers(job, answer, members):

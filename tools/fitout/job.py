@@ -81,6 +81,7 @@ def unpacked(data):
 WEIGHTS = range(-WEIGHT_LIMIT, WEIGHT_LIMIT + 1)
 NUMBERS = range(-NUMBER_LIMIT, NUMBER_LIMIT + 1)
 SIDES = range(-SIDE_LIMIT, SIDE_LIMIT + 1)
+COEFFICIENTS = f"1 to {COEFFICIENT_LIMIT:,} in size, with either sign"
 
 
 def is_coefficient(value):
@@ -107,15 +108,16 @@ def count_breaches(count):
     return [outside(5, what, value, range_text(allowed)) for what, value, allowed in fields if value not in allowed]
 
 
-def tie_breaches(tie, n):
-    """Of one tie in a job of n counts: those of reason 6 before those of 7."""
+def tie_breaches(job, tie):
+    """Of one tie of a job: those of reason 6 before those of 7."""
+    n = len(job.counts)
     there = f"counts are c0 to c{n - 1}" if n > 1 else "there is c0 alone" if n else "the job has no counts"
     found = [Breach(6, f"there is no count c{count}: {there}") for count in dict.fromkeys((tie.left, tie.right)) if count >= n]
     if tie.left == tie.right:
-        found.append(Breach(6, f"the left and the right count are the same, c{tie.left}, and have to be two"))
-    size = f"1 to {COEFFICIENT_LIMIT:,} in size, with either sign"
-    coefficients = [("the left coefficient, a,", tie.a), ("the right coefficient, b,", tie.b)]
-    found += [outside(7, what, value, size) for what, value in coefficients if not is_coefficient(value)]
+        found.append(Breach(6, f"the left and the right count are the same, {job.name(tie.left)}, and have to be two"))
+    coefficients = [("a", tie.a, tie.left), ("b", tie.b, tie.right)]
+    found += [outside(7, f"the coefficient of {job.name(count)}, {field},", value, COEFFICIENTS)
+              for field, value, count in coefficients if not is_coefficient(value)]  # fmt: skip
     if tie.c not in SIDES:
         found.append(outside(7, "the right-hand side, c,", tie.c, range_text(SIDES)))
     return found

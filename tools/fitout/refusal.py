@@ -21,9 +21,14 @@ REASONS = {
 
 def words(data, job, reason, row):
     """The lines that explain it."""
-    told = {5: in_count, 6: in_tie, 7: in_tie}.get(reason)
+    told = {3: too_many, 5: in_count, 6: in_tie, 7: in_tie}.get(reason)
     fields = told(job, reason, row) if told and job else in_header(data, reason)
     return [f"refused, reason {reason}: {REASONS.get(reason, 'no reason that this command knows')}.", *(f"  {field}." for field in fields)]
+
+
+def too_many(job, reason, row):
+    there = [("counts", len(job.counts), MOST_COUNTS), ("ties", len(job.ties), MOST_TIES)]
+    return [f"There are {number(many)} {what}; {number(most)} are the most" for what, many, most in there if many > most]
 
 
 def in_count(job, reason, row):
@@ -33,7 +38,7 @@ def in_count(job, reason, row):
 
 def in_tie(job, reason, row):
     place = tie_place(job, row)
-    return [f"{place}: {breach.words}" for breach in tie_breaches(job.ties[row], len(job.counts)) if breach.reason == reason]
+    return [f"{place}: {breach.words}" for breach in tie_breaches(job, job.ties[row]) if breach.reason == reason]
 
 
 def in_header(data, reason):

@@ -10,8 +10,10 @@ from .command import Failure
 from .job import LONGEST, MARK, Job, unpacked
 
 MOST_TEXT = 1 << 20  # 1,280 rows and their comments take less by far
-MOST_FAULTS = 20  # that are shown
+MOST_FAULTS = 1000  # that are shown
 CONTROL = re.compile(rb"[\x00-\x08\x0e-\x1f\x7f]")
+BEGINS = re.compile(rb"(?m)^(\xef\xbb\xbf)?[ \t]*(count|tie)\b")
+WIDE = re.compile(rb"c\0o\0u\0n\0t\0|t\0i\0e\0 \0")  # in UTF-16
 
 
 class Source(NamedTuple):
@@ -48,15 +50,15 @@ def content(name):
 
 
 def is_text(data):
-    """What does not begin with a job's mark, and has no bytes that no text has."""
+    """What does not begin with a job's mark, and has no bytes that no text has; or begins a line as a job's text does."""
     if data.startswith(MARK):
         return False
-    return not CONTROL.search(data) or is_utf_16(data)
+    return not CONTROL.search(data) or bool(BEGINS.search(data)) or is_utf_16(data)
 
 
 def is_utf_16(data):
     if data[:2] not in (b"\xff\xfe", b"\xfe\xff"):
-        return False
+        return bool(WIDE.search(data))
     decoded = data[: len(data) & ~1].decode("utf-16", "replace")
     return all(letter.isprintable() or letter in "\r\n\t" for letter in decoded)
 
@@ -67,6 +69,11 @@ def read_text(data, shown):
         raise Failure(f"{shown}: is text in UTF-16: save it as UTF-8")
     if len(data) > MOST_TEXT:
         raise Failure(f"{shown}: is longer than {MOST_TEXT:,} bytes, and no job's text is")
+    data = data.removesuffix(b"\x1a")  # which ends a file of old
+    control = CONTROL.search(data)
+    if control:
+        line, byte = data.count(b"\n", 0, control.start()) + 1, control.group()[0]
+        raise Failure(f"{shown}:{line}: byte {byte:#04x} stands there, which no text has")
     try:
         decoded = data.decode("utf-8-sig")
     except UnicodeDecodeError as error:

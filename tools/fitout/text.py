@@ -23,58 +23,90 @@ a warning: a number has to fit its field, and need not be in its range (docs/FOR
 """
 
 import re
+import unicodedata
 
-from .job import MOST_COUNTS, MOST_TIES, Count, Job, Tie, count_breaches, tie_breaches
+from .job import COEFFICIENTS, MOST_COUNTS, MOST_TIES, NUMBERS, SIDES, WEIGHTS, Count, Job, Tie, count_breaches, range_text, tie_breaches
 from .wording import listed
 
-TOKEN = re.compile(r"[0-9]{1,3}(?:[,_][0-9]{3})+(?![0-9])|[0-9]+|[^\W\d_]\w*|\.\.|[-−+*·=,;]")
-FRACTION = re.compile(r"[0-9][0-9,_]*(?:\.(?!\.)|/|,(?=[0-9]))[0-9]*|\.[0-9]+|[¼½¾⅓⅔]")
+TOKEN = re.compile(r"[0-9]{1,3}(?:[,_][0-9]{3})+(?![0-9])|[0-9]+|[^\W\d_]\w*|\.\.(?!\.)|[-−–+*·×=,]")
+FRACTION = re.compile(r"[0-9][0-9,_]*(?:\.(?!\.)|/|,(?=[0-9]))[0-9]*|\.[0-9]+|/")
 COMPARISON = re.compile(r"[<>≤≥≠!]=?|==|=[<>]")
+SIGNS = str.maketrans("−–·×", "--**")
 NUMBERED = re.compile(r"c[0-9]+")
 COUNTED = re.compile(r"\bcount\s+((?:[^\W\d]\w*[ ,]*)+)")
 MOST_LETTERS = 40  # of a name
+MOST_HINTS, MOST_NAMES = 50, 1000  # a hint takes a while where there are many names
 WORDS = ("count", "tie", "weight", "times")
+BETWEEN = " (a ; or a new line stands between statements)"
 
-U16 = (0, 2**16 - 1)
-I32 = (-(2**31), 2**31 - 1)
-I64 = (-(2**63), 2**63 - 1)
+
+class Field:
+    """What a number has to be: it is packed where it fits its bytes, and taken by the planner where it is in its range."""
+
+    def __init__(self, what, least, most, allowed):
+        self.what, self.least, self.most, self.allowed = what, least, most, allowed
+
+    def hold(self, value):
+        """The value, if its bytes can hold it."""
+        if not self.least <= value <= self.most:
+            shown = f"{value:,}" if abs(value) < 10**24 else f"{value:.6e}"
+            raise Fault(f"{self.what} is {shown}, and may be {self.allowed}")
+        return value
+
+
+LOW = Field("the low", -(2**31), 2**31 - 1, range_text(NUMBERS))
+HIGH = Field("the high", -(2**31), 2**31 - 1, range_text(NUMBERS))
+WEIGHT = Field("the weight", -(2**31), 2**31 - 1, range_text(WEIGHTS))
+COEFFICIENT = Field("a coefficient", -(2**31), 2**31 - 1, COEFFICIENTS)
+SIDE = Field("the right-hand side", -(2**63), 2**63 - 1, range_text(SIDES))
+NUMBER = Field("the number of a count", 0, 2**16 - 1, f"0 to {MOST_COUNTS - 1}")
+TIMES = Field("times", 1, 2**16 - 1, "1 to 65,535")
+MOST_ROWS = 2**16 - 1  # that the header can tell
 
 
 class Fault(Exception):
-    """What is wrong with a statement."""
+    """What is wrong with a statement. Where a word is not known, those that may be meant."""
+
+    def __init__(self, words, word="", known=()):
+        super().__init__(words)
+        self.words, self.word, self.known = words, word, known
+
+    def told(self, with_hint):
+        return self.words + (meant(self.word, self.known) if with_hint and 0 < len(self.known) <= MOST_NAMES else "")
+
+
+def meant(word, known):
+    """A hint, where a known word is nearly the one that stands there."""
+    import difflib  # takes as long as all the rest, and only a fault needs it
+
+    near = difflib.get_close_matches(word.lower(), known, 1, 0.7)
+    return f" (is '{near[0]}' meant?)" if near and near[0] != word else ""
 
 
 # ---- tokens
 
 
 def tokens_of(text):
-    """The numbers, words and signs of a line without its comment."""
+    """The numbers, words and signs of a statement."""
     tokens, at = [], 0
     while at < len(text):
         if text[at].isspace():
             at += 1
             continue
-        found = COMPARISON.match(text, at)
+        found, fraction, token = COMPARISON.match(text, at), FRACTION.match(text, at), TOKEN.match(text, at)
         if found:
             raise Fault(f"'{found.group()}': ties are equations, with one =; a least and a most stand in a count, as LOW..HIGH")
-        fraction, found = FRACTION.match(text, at), TOKEN.match(text, at)
-        if fraction and (not found or fraction.end() > found.end() or not text[at].isdecimal()):
-            raise Fault(f"'{fraction.group()}': whole numbers only, grouped by threes if at all")
-        if not found:
+        if text.startswith("...", at) or text[at] == "…":
+            raise Fault("two dots stand between low and high: LOW..HIGH")
+        if fraction and (not token or fraction.end() > token.end()):
+            raise Fault(f"'{fraction.group()}': whole numbers only, grouped by threes with , or _ if at all")
+        if text[at].isnumeric() and not text[at].isascii():
+            raise Fault(f"'{text[at]}': whole numbers only, in the digits 0 to 9")
+        if not token:
             raise Fault(f"'{text[at:].split()[0][:40]}' is not understood")
-        tokens.append(found.group().replace("−", "-").replace("·", "*"))
-        at = found.end()
+        tokens.append(token.group().translate(SIGNS))
+        at = token.end()
     return tokens
-
-
-def statements_of(line):
-    """The statements of a line, each as its tokens."""
-    statements, tokens = [], tokens_of(line.split("#", 1)[0])
-    while ";" in tokens:
-        place = tokens.index(";")
-        statements.append(tokens[:place])
-        tokens = tokens[place + 1 :]
-    return [statement for statement in statements + [tokens] if statement]
 
 
 def is_number(token):
@@ -85,22 +117,32 @@ def is_word(token):
     return token[:1].isalpha()
 
 
+def value_of(token):
+    digits = token.replace(",", "").replace("_", "").lstrip("0") or "0"
+    # no field holds more than 19 digits; a number of very many is not even converted
+    return int(digits[:40])
+
+
 class Statement:
     """The tokens of a statement, taken from the left."""
 
     def __init__(self, tokens):
-        self.tokens = list(tokens)
+        self.tokens, self.at = tokens, 0
 
     def next(self):
-        return self.tokens[0] if self.tokens else ""
+        return self.tokens[self.at] if self.at < len(self.tokens) else ""
+
+    def pop(self):
+        self.at += 1
+        return self.tokens[self.at - 1]
 
     def shown(self):
-        return f"'{self.next()}'" if self.tokens else "the end of the line"
+        return f"'{self.next()}'" if self.next() else "the end of the line"
 
     def take(self, *wanted):
         """Whether the next token is one of those wanted; if so it is taken."""
         if self.next() in wanted:
-            self.tokens.pop(0)
+            self.at += 1
             return True
         return False
 
@@ -111,66 +153,57 @@ class Statement:
         self.take("+")
         return 1
 
-    def number(self, what, field):
+    def number(self, field):
         """The next number, with its sign; it has to fit its field."""
         sign = self.sign()
         if not is_number(self.next()):
-            raise Fault(f"the number for {what} is missing before {self.shown()}")
-        return fitting(sign * value_of(self.tokens.pop(0)), what, field)
+            raise Fault(f"the number for {field.what} is missing before {self.shown()}")
+        return field.hold(sign * value_of(self.pop()))
 
     def name(self):
         """The words of a name; empty where there is none."""
         words = []
         while is_word(self.next()) and self.next() not in WORDS:
-            words.append(self.tokens.pop(0))
+            words.append(self.pop())
         return " ".join(words)
 
     def end(self):
-        if self.tokens:
-            hint = meant(self.next(), WORDS) if self.next() not in WORDS else ""
-            raise Fault(f"{self.shown()} is not expected here{hint}")
-
-
-def value_of(token):
-    digits = token.replace(",", "").replace("_", "").lstrip("0") or "0"
-    # no field holds more than 19 digits; a number of very many is not even converted
-    return int(digits[:40])
-
-
-def fitting(value, what, field):
-    """The value, if its field can hold it."""
-    if not field[0] <= value <= field[1]:
-        shown = f"{value}"
-        raise Fault(f"{shown if len(shown) < 30 else shown[:26] + '...'} for {what} does not fit its field ({field[0]} to {field[1]})")
-    return value
-
-
-def meant(word, known):
-    """A hint, where a known word is nearly the one that stands there."""
-    import difflib  # takes as long as all the rest, and only a fault needs it
-
-    near = difflib.get_close_matches(word.lower(), known, 1, 0.7)
-    return f" (is '{near[0]}' meant?)" if near else ""
+        """Nothing may follow."""
+        word = self.next()
+        if word == ".." and "," in self.tokens[self.at - 1]:
+            raise Fault(f"'..' is not expected here ({self.tokens[self.at - 1]} is one number: a blank stands after a comma between counts)")
+        if word:
+            raise Fault(f"{self.shown()} is not expected here{BETWEEN if word in ('count', 'tie') else ''}", word, WORDS)
 
 
 # ---- counts
 
 
-def counts_of(statement, line):
-    """[NAME {, NAME}] LOW..HIGH [weight NUMBER] [times NUMBER]"""
+def names_of(statement):
+    """NAME {, NAME}, or nothing"""
     names = [statement.name()]
     while names[-1] and statement.take(","):
         names.append(statement.name())
         if not names[-1]:
             raise Fault(f"a name is missing before {statement.shown()}")
-    low = statement.number("the low", I32)
+    if statement.next() in WORDS:
+        raise Fault(f"LOW..HIGH is missing before {statement.shown()}, which cannot be a word of a name")
+    return names
+
+
+def counts_of(statement, line):
+    """[NAME {, NAME}] LOW..HIGH [weight NUMBER] [times NUMBER]"""
+    names = names_of(statement)
+    low = statement.number(LOW)
     if not statement.take(".."):
-        raise Fault(f"'..' is missing between low and high, before {statement.shown()}")
-    high = statement.number("the high", I32)
+        next_is_name = is_number(statement.next()) or is_word(statement.next())
+        hint = " (each word of a name begins with a letter)" if next_is_name else ""
+        raise Fault(f"'..' is missing between low and high, before {statement.shown()}{hint}")
+    high = statement.number(HIGH)
     given = {}
     while statement.next() in ("weight", "times") and statement.next() not in given:
-        word = statement.tokens.pop(0)
-        given[word] = statement.number("the weight", I32) if word == "weight" else statement.number("times", U16)
+        word = statement.pop()
+        given[word] = statement.number(WEIGHT if word == "weight" else TIMES)
     weight, times = given.get("weight", 0), given.get("times")
     if times is not None and any(names):
         names = [name + str(i) for name in names for i in range(1, times + 1)]
@@ -192,12 +225,14 @@ class Sums:
     def add(self, statement, side):
         """One term, or a plain number, with its sign; side is -1 right of the =."""
         sign = side * statement.sign()
-        digits = statement.tokens.pop(0) if is_number(statement.next()) else ""
+        digits = statement.pop() if is_number(statement.next()) else ""
         if digits:
             statement.take("*")
         name = statement.name()
+        if name and statement.next() == "*":
+            raise Fault(f"a coefficient stands before its count: 16 {name}, and not {name} * 16")
         if name:
-            self.terms.append((fitting(sign * value_of(digits or "1"), "a coefficient", I32), name))
+            self.terms.append((COEFFICIENT.hold(sign * value_of(digits or "1")), name))
         elif digits:
             self.number -= sign * value_of(digits)
         else:
@@ -216,8 +251,8 @@ def tie_of(statement):
     if not statement.take("="):
         raise Fault(f"'=' is missing before {statement.shown()}")
     sums.add_side(statement, -1)
-    fitting(sums.number, "the right-hand side", I64)
-    return sums, statement.number("times", U16) if statement.take("times") else 1
+    SIDE.hold(sums.number)
+    return sums, statement.number(TIMES) if statement.take("times") else 1
 
 
 # ---- the whole text
@@ -229,16 +264,19 @@ class Reader:
     def __init__(self):
         self.counts, self.read_ties, self.ties = [], [], []
         self.numbers = {}  # of the names
-        self.spoiled = set()  # names on faulty lines: a tie that uses one is no fault of its own
-        self.faults, self.warnings = [], []
+        self.spoiled = set()  # names on faulty lines: that a tie uses one is no fault of its own
+        self.called = {}  # all these names
+        self.faults, self.warnings = {}, {}  # by line and words; each is told once
 
     def read(self, text):
         for line, content in enumerate(text.split("\n"), 1):
             before = len(self.faults)
-            self.attempt(line, self.read_line, content)
+            for statement in content.split("#", 1)[0].split(";"):
+                self.attempt(line, self.statement, statement)
             if len(self.faults) > before:
-                for names in COUNTED.findall(content):
-                    self.spoiled |= {" ".join(name.split()) for name in names.split(",")}
+                names = {" ".join(name.split()) for found in COUNTED.findall(content) for name in found.split(",")}
+                self.spoiled |= names
+                self.called |= dict.fromkeys(sorted(names))
         for line, sums, times in self.read_ties:
             self.attempt(line, self.tie, sums, times)
         if not self.faults:
@@ -247,20 +285,19 @@ class Reader:
 
     def attempt(self, line, act, *words):
         try:
-            act(line, *words)
+            return act(line, *words)
         except Fault as fault:
-            self.faults.append((line, str(fault)))
+            self.faults.setdefault((line, fault.words), fault)
 
-    def read_line(self, line, content):
-        for tokens in statements_of(content):
-            self.attempt(line, self.statement, Statement(tokens))
-
-    def statement(self, line, statement):
+    def statement(self, line, text):
+        statement = Statement(tokens_of(text))
         word = statement.next()
-        if not statement.take("count", "tie"):
-            raise Fault(f"unknown word {statement.shown()}: a line begins with count or tie{meant(word, ('count', 'tie'))}")
-        counts, ties, goes_on = [], [], True
+        if word and not statement.take("count", "tie"):
+            raise Fault(f"unknown word {statement.shown()}: a line begins with count or tie", word, ("count", "tie"))
+        counts, ties, goes_on = [], [], bool(word)
         while goes_on:
+            if statement.next() in ("count", "tie"):
+                raise Fault(f"{statement.shown()} is not expected here{BETWEEN}")
             if word == "count":
                 counts += counts_of(statement, line)
             else:
@@ -272,8 +309,8 @@ class Reader:
             self.count(count)
 
     def count(self, count):
-        if len(self.counts) == U16[1]:
-            raise Fault(f"more than {U16[1]} counts do not fit the header's field")
+        if len(self.counts) == MOST_ROWS:
+            raise Fault(f"more than {MOST_ROWS:,} counts do not fit the header's field")
         number = len(self.counts)
         if len(count.name) > MOST_LETTERS:
             raise Fault(f"a name has at most {MOST_LETTERS} letters: '{count.name[:20]}...'")
@@ -283,39 +320,38 @@ class Reader:
             other = self.counts[self.numbers[count.name]].line
             raise Fault(f"there is a count '{count.name}' already, on line {other}")
         if count.name:
-            self.numbers[count.name] = number
+            self.numbers[count.name] = self.called[count.name] = number
         self.counts.append(count)
 
-    def number(self, name):
-        """The number of the count that is called so."""
+    def number(self, line, name):
+        """The number of the count that is called so; None where its own line is faulty."""
         if name in self.numbers:
             return self.numbers[name]
         if NUMBERED.fullmatch(name):
-            return fitting(value_of(name[1:]), "the number of a count", U16)
+            return NUMBER.hold(value_of(name[1:]))
+        if name in self.spoiled or name.rstrip("0123456789") in self.spoiled:
+            return None
         words = name.split()
         if len(words) > 1 and all(word in self.numbers or NUMBERED.fullmatch(word) for word in words):
             raise Fault(f"+ or - is missing between {' and '.join(words)}")
-        raise Fault(f"there is no count '{name}'{meant(name, self.numbers)}")
-
-    def is_spoiled(self, name):
-        return name not in self.numbers and (name in self.spoiled or name.rstrip("0123456789") in self.spoiled)
+        raise Fault(f"there is no count '{name}'", name, self.called)
 
     def tie(self, line, sums, times):
-        if any(self.is_spoiled(name) for _, name in sums.terms):
+        terms = [(coefficient, self.attempt(line, self.number, name)) for coefficient, name in sums.terms]
+        if any(number is None for _, number in terms):
             return
-        terms = [(coefficient, self.number(name)) for coefficient, name in sums.terms]
         if len(terms) != 2:
             names = listed(name for _, name in sums.terms)
             named = ("none", f"only {names}: its bounds can hold it, as LOW..HIGH", names)[min(len(terms), 2)]
             raise Fault(f"a tie names two counts, and this one names {named}")
         (a, left), (b, right) = terms
-        row = Tie(left, right, a, b, sums.number, line)
-        if len(self.ties) + times > U16[1]:
-            raise Fault(f"more than {U16[1]} ties do not fit the header's field")
-        self.ties += [row] * times
+        if len(self.ties) + times > MOST_ROWS:
+            raise Fault(f"more than {MOST_ROWS:,} ties do not fit the header's field")
+        self.ties += [Tie(left, right, a, b, sums.number, line)] * times
 
     def warn(self):
         """What the planner would refuse, and a low above its high, which leaves no fit."""
+        job = Job(tuple(self.counts), tuple(self.ties))
         for what, rows, most in (("counts", self.counts, MOST_COUNTS), ("ties", self.ties, MOST_TIES)):
             if len(rows) > most:
                 self.warning(rows[most].line, f"{len(rows):,} {what}, and {most:,} are the most", 3)
@@ -324,14 +360,12 @@ class Reader:
                 self.warning(count.line, breach.words, breach.reason)
             if count.low > count.high:
                 self.warning(count.line, f"the low, {count.low:,}, is above the high, {count.high:,}, which leaves no fit")
-        for tie in self.ties:
-            for breach in tie_breaches(tie, len(self.counts)):
+        for tie in dict.fromkeys(self.ties):
+            for breach in tie_breaches(job, tie):
                 self.warning(tie.line, breach.words, breach.reason)
 
     def warning(self, line, words, reason=0):
-        note = (line, words + (f"; the planner refuses this, reason {reason}" if reason else ""))
-        if note not in self.warnings:  # rows alike have one
-            self.warnings.append(note)
+        self.warnings[line, words + (f"; the planner refuses this, reason {reason}" if reason else "")] = True
 
 
 def is_job(text):
@@ -342,5 +376,7 @@ def is_job(text):
 def read(text):
     """The job, the faults and the warnings, each with its line and in the order of the lines."""
     reader = Reader()
-    job = reader.read(text)
-    return job, sorted(reader.faults), sorted(reader.warnings)
+    job = reader.read(unicodedata.normalize("NFC", text))
+    faults = sorted(reader.faults.items(), key=lambda item: item[0][0])
+    told = [(line, fault.told(place < MOST_HINTS)) for place, ((line, _), fault) in enumerate(faults)]
+    return job, told, sorted(reader.warnings)
