@@ -37,8 +37,8 @@ def tie_line(chance, called, hidden, largest):
 def lawful(chance):
     """A job that is not refused: in some the ties are a chain with rings of up to 60 counts."""
     hidden = numbers_near(chance, chance.choice((5, 40, 1000)))
-    if chance.random() < 0.02:
-        hidden = hidden * 10
+    if chance.random() < 0.05:
+        hidden = hidden * chance.choice((3, 10))
     width, largest = chance.choice(((0, 1), (3, 2), (12, 4), (40, 9), (5000, 1000), (10**8, 10**6)))
     names = chance.sample(NAMES, min(len(hidden), len(NAMES))) + [""] * len(hidden)
     names = [name if chance.random() < 0.5 else "" for name in names[: len(hidden)]]

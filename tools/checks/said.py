@@ -239,7 +239,7 @@ def no_fit(told, count, tried=None):
     if not told.lines[-2].startswith("  "):
         contradiction(told, members, rows, told.lines[-2])
     else:
-        told.hold(not is_passed_on(told, rows), "that one bound leads past the other is not said")
+        told.hold(all(row[0] == "tie" for row in rows), "what the others make of the count is not said")
     cure(told, members, rows[:: max(1, len(rows) // (tried or len(rows)))], told.lines[-1])
 
 
@@ -279,8 +279,8 @@ def cure(told, members, rows, line):
         return
     told.hold(cured != rows, "every removal would help")
     if line != "The group has other conflicts too: leaving out one of these alone gives it no fit-out.":
-        named = re.match(r"The group has other conflicts too\. (One row|Any one of these rows) gives it a fit-out when left out: (.*)\.$", line)
-        first = re.split(r", (?=\D)| and [\d,]+ more$", named.group(2))[0]
+        front = r"The group has other conflicts too\. (?:One row|Any one of these rows) gives it a fit-out when left out: "
+        first = re.split(r", (?=\D)| and [\d,]+ more$", re.match(rf"{front}(.*)\.$", line).group(1))[0]
         told.hold(kept(told, members, without(every, part(told, "  " + first))), f"it does not help: {first}")
     else:
         told.hold(not cured, "a removal would help")
@@ -292,63 +292,65 @@ def without(rows, row):
     return rows[:at] + rows[at + 1 :]
 
 
-def is_passed_on(told, rows):
-    """Whether the bounds of two counts contradict each other even in fractions."""
-    ties, bounds = [row[1] for row in rows if row[0] == "tie"], [row for row in rows if row[0] != "tie"]
-    if len(bounds) != 2 or bounds[0][1] == bounds[1][1]:
-        return False
-    lines, left_over = judge.lines_of(sorted({i for tie in ties for i in tie[:2]}), ties)
-    least, most = [], []
-    for kind, i in bounds:
-        first, slope = lines[i]
-        end = (told.bounds[i][kind == "high"] - first) / slope
-        (least if (kind == "low") == (slope > 0) else most).append(end)
-    return not left_over and bool(least and most) and max(least) > min(most)
-
-
 def contradiction(told, members, rows, line):
     """The line on how they contradict each other is true."""
     ties = [row[1] for row in rows if row[0] == "tie"]
-    found = re.match(rf"With (.*) (at least|at most) ({NUMBER}) the ties make (.*) (at least|at most) (.*)\.$", line)
-    if found:
-        name, side, bound, other, other_side, end = found.groups()
-        row, end = ("low" if side == "at least" else "high", told.number[name]), fraction(end)
-        told.hold(row in rows and told.bounds[row[1]][side == "at most"] == value(bound), "the bound that is passed on")
-        i = told.number[other]
-        past = (i, -LIMIT, -(-end // 1) - 1) if other_side == "at least" else (i, end // 1 + 1, LIMIT)
-        told.hold(not kept(told, members, [row] + [r for r in rows if r[0] == "tie"], [past]), f"not so: {line}")
-        asked = ("high" if other_side == "at least" else "low", i) in rows
-        told.hold(asked and (end > told.bounds[i][1] if other_side == "at least" else end < told.bounds[i][0]), f"no contradiction: {line}")
-        return
-    found = re.match(rf"(.*) is a multiple of ({NUMBER}), and ({NUMBER}) is not\.$", line)
-    if found:
-        _, _, a, b, c = ties[0]
-        factor = value(found.group(2))
-        told.hold(len(rows) == 1 and a % factor == b % factor == 0 and c == value(found.group(3)) and c % factor != 0, line)
-        return
-    ring_line(told, rows, ties, line)
-
-
-def ring_line(told, rows, ties, line):
-    found = re.match(rf"The ties leave (.*) no number from ({NUMBER}) to ({NUMBER})\.$", line)
-    if found:
-        i = told.number[found.group(1)]
-        told.hold(told.bounds[i] == (value(found.group(2)), value(found.group(3))) and {("low", i), ("high", i)} < set(rows), line)
-        return
     if line == "The low is above the high.":
         told.hold(not ties and len(rows) == 2 and rows[0][1] == rows[1][1], line)
         return
-    members = sorted({i for tie in ties for i in tie[:2]})
-    lines, left_over = judge.lines_of(members, ties)
+    found = re.match(rf"With the others (.*) is (at most|at least) ({NUMBER})\.$", line)
+    if found and found.group(1) in told.number:
+        bound_line(told, members, rows, told.number[found.group(1)], found.group(2) == "at most", value(found.group(3)))
+        return
+    found = re.match(r"Together the ties make (.*) = (.*), which is not whole\.$", line)
+    if found:
+        broken_line(told, ties, told.number[found.group(1)], fraction(found.group(2)))
+        return
+    told.hold(len(ties) == len(rows), f"a line on ties alone: {line}")
+    tie_line(told, members, rows, line)
+
+
+def bound_line(told, members, rows, i, is_most, end):
+    """What the others make of a count: not more, just so much, and past the bound that is named."""
+    bound = ("low" if is_most else "high", i)
+    told.hold(bound in rows, "a bound that is not named")
+    others = [row for row in rows if row != bound]
+    past = (i, end + 1, LIMIT) if is_most else (i, -LIMIT, end - 1)
+    told.hold(not kept(told, members, others, [past]) and kept(told, members, others, [(i, end, end)]), f"the others do not make it {end}")
+    told.hold(end < told.bounds[i][0] if is_most else end > told.bounds[i][1], f"{end} breaks no bound")
+
+
+def broken_line(told, ties, i, made):
+    lines, left_over = judge.lines_of(sorted({i for tie in ties for i in tie[:2]}), ties)
     left, right, a, b, c = left_over[0]
     slope, start = (a * lines[left][k] + b * lines[right][k] for k in (1, 0))
-    found = re.match(r"The others make (.*) = (.*)\.$", line)
-    if found:
-        told.hold(slope == 0 != c - start, line)
-        return
-    name, made = re.match(r"Together the ties make (.*?) = (-?[\d,]*\d(?: [\d,]+)?(?:/[\d,]+)?)(?:, which is not whole)?\.$", line).groups()
-    first, step = lines[told.number[name]]
-    told.hold(first + step * (c - start) / slope == fraction(made), line)
+    told.hold(lines[i][0] + lines[i][1] * (c - start) / slope == made and made.denominator > 1, f"the ties do not make it {made}")
+
+
+def tie_line(told, members, rows, line):
+    """What the others leave of the left side of the last tie."""
+    left, right, a, b, c = rows[-1][1]
+
+    def reached(side):
+        return kept(told, members, rows[:-1] + [("tie", (left, right, a, b, side))])
+
+    front = "With the others " if len(rows) > 1 else ""
+    subject, end = re.match(rf"{front}(.*?) (is .*|can be .*)\.$", line).groups()
+    told.hold(told.job.name(left) in subject and told.job.name(right) in subject, f"another tie: {line}")
+    numbers = [value(found) for found in re.findall(NUMBER, end)]
+    if end.startswith("is a multiple of"):
+        factor = numbers[0]
+        told.hold(len(rows) == 1 and a % factor == b % factor == 0 and c == numbers[1] and c % factor != 0, line)
+    elif end.startswith("can be"):
+        low, high = numbers
+        between = range(low + 1, high) if high - low < 100 else [low + 1, low + 2, c, (low + high) // 2, high - 1]
+        told.hold(low < c < high and reached(low) and reached(high) and not any(map(reached, between)), line)
+    elif "at" in end:
+        sign = 1 if "most" in end else -1
+        told.hold((c - numbers[0]) * sign > 0 and reached(numbers[0]), line)
+        told.hold(not any(reached(numbers[0] + sign * more) for more in (1, 2, 3, 60, 10**6) if abs(numbers[0] + more) < 2 * 10**15), line)
+    else:
+        told.hold(numbers[0] != c and reached(numbers[0]) and not any(reached(numbers[0] + k) for k in range(-30, 31) if k), line)
 
 
 def fraction(text):

@@ -1,38 +1,58 @@
-"""How the ties and bounds of a conflict contradict each other, where one line can say it. That they do, the planner has said: this
-only puts it in words."""
+"""How the ties and bounds of a conflict contradict each other, in a line: what all but one of them leave, as the planner gives it, and the
+one that this breaks."""
 
 import math
 from fractions import Fraction
 
-from .job import NUMBER_LIMIT
+from .job import SIDES
 from .wording import equation, number
 
 
-def words(job, found):
+def words(job, found, group):
     """One line, or none."""
-    ties, bounds = [part.index for part in found if part.kind == "tie"], [part for part in found if part.kind != "tie"]
+    ties, bounds = [part for part in found if part.kind == "tie"], [part for part in found if part.kind != "tie"]
     if not ties:
         return ["The low is above the high."]
-    if len(ties) == 1 and not bounds:
-        return common_factor(job, job.ties[ties[0]])
-    start = bounds[0].index if bounds else job.ties[ties[0]].left
-    numbers, closing = along(job, ties, start)
-    if closing:
-        return ring(job, numbers, job.ties[closing[0]], bounds)
-    if [bound.index for bound in bounds] == [start, start]:
-        return [f"The ties leave {job.name(start)} no number from {number(job.counts[start].low)} to {number(job.counts[start].high)}."]
-    return [line for bound in bounds[1:] for line in passed_on(job, numbers, bounds[0], bound)][:1]
+    if bounds:
+        return [bound_line(job, bounds[-1], group.sheet([part for part in found if part != bounds[-1]]))]
+    if len(ties) == 1 and job.ties[ties[0].index].c % common_factor(job.ties[ties[0].index]):
+        return [factor_line(job, job.ties[ties[0].index])]
+    return broken_line(job, [part.index for part in ties]) or tie_line(job, ties, group)
 
 
-def common_factor(job, tie):
-    factor = math.gcd(tie.a, tie.b)
-    if tie.c % factor == 0:
-        return []
-    return [f"{left_side(job, tie)} is a multiple of {number(factor)}, and {number(tie.c)} is not."]
+def common_factor(tie):
+    return math.gcd(tie.a, tie.b)
 
 
 def left_side(job, tie):
     return equation(job, tie).rpartition(" = ")[0]
+
+
+def factor_line(job, tie):
+    return f"{left_side(job, tie)} is a multiple of {number(common_factor(tie))}, and {number(tie.c)} is not."
+
+
+def bound_line(job, bound, sheet):
+    """What the others make of the count whose bound they break."""
+    row, family = sheet[bound.index]
+    ends = ends_of(1, row, family)
+    made = f"at most {number(ends[1])}" if bound.kind == "low" else f"at least {number(ends[0])}"
+    return f"With the others {job.name(bound.index)} is {made}."
+
+
+# ---- ties alone
+
+
+def broken_line(job, ties):
+    """Of ties that close a ring: the count that they make a broken number, if they do."""
+    numbers, closing = along(job, ties, job.ties[ties[0]].left)
+    if not closing:
+        return []
+    tie = job.ties[closing[0]]
+    first, slope = (tie.a * numbers[tie.left][k] + tie.b * numbers[tie.right][k] for k in (0, 1))
+    made = {i: start + step * (tie.c - first) / slope for i, (start, step) in sorted(numbers.items())} if slope else {}
+    broken = [(i, value) for i, value in made.items() if value.denominator != 1][:1]
+    return [f"Together the ties make {job.name(i)} = {mixed(value)}, which is not whole." for i, value in broken]
 
 
 def along(job, ties, start):
@@ -51,46 +71,36 @@ def along(job, ties, start):
         numbers[other] = (tie.c - a * first) / b, -a * slope / b
 
 
-def ring(job, numbers, tie, bounds):
-    """What a ring makes of its counts."""
-    (first, slope), (other_first, other_slope) = numbers[tie.left], numbers[tie.right]
-    slope = tie.a * slope + tie.b * other_slope
-    first = tie.a * first + tie.b * other_first
-    if slope == 0:
-        return [f"The others make {left_side(job, tie)} = {whole(first)}."]
-    at = (tie.c - first) / slope
-    made = {i: start + step * at for i, (start, step) in sorted(numbers.items())}
-    for i, value in made.items():
-        if value.denominator != 1:
-            return [f"Together the ties make {job.name(i)} = {whole(value)}, which is not whole."]
-    for i, value in made.items():
-        if abs(value) > NUMBER_LIMIT or any(breaks(job, bound, value) for bound in bounds if bound.index == i):
-            return [f"Together the ties make {job.name(i)} = {whole(value)}."]
-    return []
-
-
-def breaks(job, bound, value):
-    count = job.counts[bound.index]
-    return value < count.low if bound.kind == "low" else value > count.high
-
-
-def passed_on(job, numbers, bound, other):
-    """What a bound of the start comes to at another count, where that breaks the other's bound."""
-    first, slope = numbers[other.index]
-    count = job.counts[bound.index]
-    end = first + slope * (count.low if bound.kind == "low" else count.high)
-    is_least = (bound.kind == "low") == (slope > 0)
-    if is_least == (other.kind == "low") or not breaks(job, other, end):
-        return []
-    makes = f"{'at least' if is_least else 'at most'} {whole(end)}"
-    return [f"With {job.name(bound.index)} {bound.bound(job)} the ties make {job.name(other.index)} {makes}."]
-
-
-def whole(value):
-    """A number that may be broken: 3 1/2."""
-    value = Fraction(value)
-    if value.denominator == 1:
-        return number(value.numerator)
+def mixed(value):
+    """A broken number: 3 1/2."""
     size = abs(value)
     front = f"{number(size.numerator // size.denominator)} " if size >= 1 else ""
     return f"{'-' if value < 0 else ''}{front}{number(size.numerator % size.denominator)}/{number(size.denominator)}"
+
+
+def tie_line(job, ties, group):
+    """What the others leave of the left side of the last tie, next to the number that it asks for."""
+    others, tie = ties[:-1], job.ties[ties[-1].index]
+    (left, p), (right, q) = (group.sheet(others)[i] for i in (tie.left, tie.right))
+    first = tie.a * left.base + tie.b * right.base
+    if left.group == right.group:
+        step = abs(tie.a * left.step + tie.b * right.step)
+    else:
+        step = math.gcd(tie.a * left.step, tie.b * right.step)
+    if not step:
+        return [f"With the others {left_side(job, tie)} is {number(first)}."]
+    below = tie.c - (tie.c - first) % step
+    # one of the two may be out of reach, as every number is within its range
+    near = [value for value in (below, below + step) if value in SIDES and group.has_fit(others, tie._replace(c=value))]
+    subject = ("With the others " if others else "") + left_side(job, tie)
+    if len(near) == 2:
+        return [f"{subject} can be {number(near[0])} or {number(near[1])}, and nothing between."]
+    if left.group != right.group:
+        least, most = (sum(ends[k] for ends in (ends_of(tie.a, left, p), ends_of(tie.b, right, q))) for k in (0, 1))
+        return [f"{subject} is at most {number(most)}."] * (most < tie.c) + [f"{subject} is at least {number(least)}."] * (tie.c < least)
+    return []
+
+
+def ends_of(factor, row, family):
+    """The least and the most of a multiple of a count's numbers."""
+    return sorted((factor * row.base, factor * (row.base + row.step * (family.fits - 1))))

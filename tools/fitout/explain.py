@@ -75,7 +75,8 @@ def no_fit(job, answer):
     else:
         whole = "in whole numbers within ±1,000,000,000"
         lines.append(f"These contradict each other, {whole}, and without any one of them the others do not:")
-    return [*lines, *(f"  {part.words(job)}" for part in found), *contradiction.words(job, found), cure(job, found, search.cures(found))]
+    lines += [f"  {part.words(job)}" for part in found]
+    return [*lines, *contradiction.words(job, found, search.group), cure(job, found, search.cures(found))]
 
 
 def cure(job, found, cures):

@@ -4,7 +4,7 @@ range, ±1,000,000,000: no count goes beyond that."""
 from typing import NamedTuple
 
 from . import planner
-from .job import NUMBER_LIMIT, Count, Tie, count_row, packed, tie_row
+from .job import NUMBER_LIMIT, Count, count_row, packed, tie_row
 from .wording import equation, number, tie_place
 
 
@@ -42,9 +42,7 @@ class Group:
             if value != end
         ]
         # the rows in all forms that a part can need, since a search asks for very many
-        self.tie_rows = {
-            k: tie_row(Tie(self.place[tie.left], self.place[tie.right], tie.a, tie.b, tie.c)) for k in self.ties for tie in [job.ties[k]]
-        }
+        self.tie_rows = {k: self.tie_row(job.ties[k]) for k in self.ties}
         self.count_rows = [
             [
                 count_row(Count(low, high, count.weight))
@@ -54,9 +52,9 @@ class Group:
             for count in (job.counts[i] for i in self.counts)
         ]
 
-    def packed(self, parts):
-        """The group's job with these parts alone."""
-        forms, ties = [0] * len(self.counts), []
+    def packed(self, parts, extra=None):
+        """The group's job with these parts alone, and with an extra tie."""
+        forms, ties = [0] * len(self.counts), [self.tie_row(extra)] if extra else []
         for kind, index in parts:
             if kind == "tie":
                 ties.append(self.tie_rows[index])
@@ -64,10 +62,18 @@ class Group:
                 forms[self.place[index]] += 2 if kind == "low" else 1
         return packed([rows[form] for rows, form in zip(self.count_rows, forms)], ties)
 
-    def has_fit(self, parts):
-        return planner.has_fit(self.packed(parts))
+    def tie_row(self, tie):
+        return tie_row(tie._replace(left=self.place[tie.left], right=self.place[tie.right]))
+
+    def has_fit(self, parts, extra=None):
+        return planner.has_fit(self.packed(parts, extra))
+
+    def sheet(self, parts):
+        """What the planner gives for these parts: of each count its row of the sheet, and its family."""
+        answer = planner.ask(self.packed(parts), with_map=False)
+        return {i: (row, answer.families[row.group]) for i, row in zip(self.counts, answer.counts)}
 
     def family(self, parts):
-        """What the planner gives for these parts, all joins among them: how many fit-outs, and the sheet's row of each count."""
-        answer = planner.ask(self.packed(parts), with_map=False)
-        return answer.families[0].fits, dict(zip(self.counts, answer.counts))
+        """The same, where all joins are among the parts: how many fit-outs there are, and the rows."""
+        sheet = self.sheet(parts)
+        return sheet[self.counts[0]][1].fits, {i: row for i, (row, _) in sheet.items()}

@@ -171,7 +171,8 @@ class Statement:
         """Nothing may follow."""
         word = self.next()
         if word == ".." and "," in self.tokens[self.at - 1]:
-            raise Fault(f"'..' is not expected here ({self.tokens[self.at - 1]} is one number: a blank stands after a comma between counts)")
+            before = self.tokens[self.at - 1]
+            raise Fault(f"'..' is not expected here ({before} is one number: a blank stands after a comma between counts)")
         if word:
             raise Fault(f"{self.shown()} is not expected here{BETWEEN if word in ('count', 'tie') else ''}", word, WORDS)
 
