@@ -76,15 +76,14 @@ def planned(told, worth):
         return
     told.hold(told.lines[0] == f"planned, worth {worth:,}.", "the worth of the first line")
     blocks, last = blocks_of(told)
-    worths = {}
-    for g, lines in blocks.items():
-        worths[g] = group(told, g, best[g], lines)
-    untied(told, best, worths, blocks)
+    together = blocks.pop("untied", [])
+    worths = {g: group(told, g, best[g], lines) for g, lines in blocks.items()}
+    untied(told, best, worths, together)
     total(told, last, worths, worth)
 
 
 def blocks_of(told):
-    """The lines of each group, and the last line."""
+    """The lines of each group, those of the untied counts that are told together, and the last line."""
     blocks, here = {}, []
     for line in told.lines[3:-1]:
         found = re.match(r"group (\d+): ", line)
@@ -93,17 +92,22 @@ def blocks_of(told):
         elif re.match(r"[\d,]+ untied counts", line):
             here = blocks["untied"] = []
         here.append(line)
-    return {g: lines for g, lines in blocks.items() if g != "untied"}, told.lines[-1]
+    return blocks, told.lines[-1]
+
+
+def title(told, g, members, line):
+    """The first line on a group: its counts, how many they are, and how many ties it has."""
+    found = re.match(rf"group {g}: (.*) \((?:([\d,]+) counts, )?(?:([\d,]+) ties?|untied)\)$", line)
+    shown, more = told.names(found.group(1))
+    ties = sum(tie[0] in members for tie in told.ties)
+    told.hold(shown == members[: len(shown)] and len(shown) + more == len(members), "the counts of a group")
+    told.hold(value(found.group(2) or str(len(members))) == len(members), "how many counts a group has")
+    told.hold(value(found.group(3) or "0") == ties, "how many ties a group has")
 
 
 def group(told, g, fits, lines):
     """The lines on a group; its worth."""
-    title = re.match(rf"group {g}: (.*) \((?:([\d,]+) counts, )?(?:([\d,]+) ties?|untied)\)$", lines[0])
-    shown, more = told.names(title.group(1))
-    ties = sum(tie[0] in fits.members for tie in told.ties)
-    told.hold(shown == fits.members[: len(shown)] and len(shown) + more == len(fits.members), "the counts of a group")
-    told.hold(value(title.group(2) or str(len(fits.members))) == len(fits.members), "how many counts a group has")
-    told.hold(value(title.group(3) or "0") == ties, "how many ties a group has")
+    title(told, g, fits.members, lines[0])
     chosen = several(told, fits, lines) if fits.many > 1 else only_one(told, g, fits, lines)
     made = re.match(rf"  worth ({NUMBER})(?: = (.*))?$", next(line for line in lines if line.startswith("  worth")))
     worth = sum(told.job.counts[i].weight * number for i, number in chosen.items())
@@ -193,13 +197,27 @@ def joins_of(told, members):
     return joins, others
 
 
-def untied(told, best, worths, blocks):
-    """The groups that are told together: untied counts alone."""
+def untied(told, best, worths, lines):
+    """The groups that are told together: untied counts alone, each in the line of its weight and of the bound at which it stands."""
+    wanted, worth, many = {}, 0, 0
     for g, fits in enumerate(best):
-        if g not in blocks:
-            told.hold(len(fits.members) == 1 and all(tie[0] != fits.members[0] != tie[1] for tie in told.ties), f"group {g} is not told")
-            weight, (low, high) = told.job.counts[fits.members[0]].weight, told.bounds[fits.members[0]]
+        if g not in worths:
+            i = fits.members[0]
+            told.hold(len(fits.members) == 1 and all(i not in tie[:2] for tie in told.ties), f"group {g} is not told")
+            weight, (low, high) = told.job.counts[i].weight, told.bounds[i]
             worths[g] = weight * (low if weight < 0 else high)
+            worth, many = worth + worths[g], many + 1
+            kind = "above 0" if weight > 0 else "below 0" if weight else "0"
+            wanted.setdefault((kind, "low" if weight < 0 and low < high else "high"), []).append(i)
+    for line in lines[1:]:
+        found = re.match(r"  ([\d,]+) with weight (above 0|below 0|0), at the (high|low)(?:: all are worth the same)?: (.*)$", line)
+        if found:
+            shown, more = told.names(found.group(4))
+            members = wanted.pop((found.group(2), found.group(3)), [])
+            told.hold(shown == members[: len(shown)] and len(shown) + more == len(members) == value(found.group(1)), line)
+    told.hold(not wanted, f"untied counts are left out: {wanted}")
+    told.hold(bool(lines) == bool(many), "the untied counts are told together, or not")
+    told.hold(not lines or f"  worth {worth:,}" in lines and value(lines[0].split()[0]) == many, "how many untied counts, or their worth")
 
 
 def total(told, last, worths, worth):
@@ -228,8 +246,10 @@ def total(told, last, worths, worth):
 
 def no_fit(told, count, tried=None):
     """The named rows: of the group, alone without a fit-out, and with one when any is left out, or when any of those tried is."""
-    members = next(m for m in judge.groups(len(told.bounds), told.ties) if judge.fits(m, told.bounds, told.ties) is None)
+    groups = judge.groups(len(told.bounds), told.ties)
+    members = next(members for members in groups if judge.fits(members, told.bounds, told.ties) is None)
     told.hold(count == members[0], "the first group without a fit-out is another")
+    title(told, groups.index(members), members, told.lines[1])
     told.hold(told.lines[0] == f"no fit at count {count}, the lowest of the first group without a fit-out.", "the first line")
     rows = [part(told, line) for line in told.lines[3:] if line.startswith("  ")]
     told.hold(all(row[1][0] in members if row[0] == "tie" else row[1] in members for row in rows), "a row of another group")

@@ -39,14 +39,14 @@ def planned(job, answer):
 
 
 def untied_together(job, answer, counts):
-    """Many untied counts: each stands at a bound, and its weight says at which."""
-    kinds = [
-        ("weight above 0, at the high", [i for i in counts if job.counts[i].weight > 0]),
-        ("weight below 0, at the low", [i for i in counts if job.counts[i].weight < 0]),
-        ("weight 0, at the high: all are worth the same", [i for i in counts if job.counts[i].weight == 0]),
-    ]
+    """Many untied counts: at which bound they stand, by their weights."""
     lines = [f"{len(counts):,} untied counts are groups of their own, each at one of its bounds:"]
-    lines += [f"  {len(members):,} with {what}: {listed(map(job.name, members))}" for what, members in kinds if members]
+    at_high = {i for i in counts if answer.counts[i].number == job.counts[i].high}
+    for what, is_so in (("above 0", lambda weight: weight > 0), ("below 0", lambda weight: weight < 0), ("0", lambda weight: weight == 0)):
+        for end in ("high", "low"):
+            members = [i for i in counts if is_so(job.counts[i].weight) and (i in at_high) == (end == "high")]
+            same = ": all are worth the same" if what == "0" else ""
+            lines += [f"  {len(members):,} with weight {what}, at the {end}{same}: {listed(map(job.name, members))}"] * bool(members)
     worth = sum(job.counts[i].weight * answer.counts[i].number for i in counts)
     return [*lines, f"  worth {number(worth)}"]
 

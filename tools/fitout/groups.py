@@ -33,8 +33,8 @@ def beyond(job, numbers):
 
 
 def way(family):
-    """Where the worth rises along the family, or the fuller frame lies: 1 to its end, -1 to its beginning."""
-    return -1 if family.gain < 0 else 1
+    """Which end of a family of several the sheet has chosen: 1 for the last, -1 for the first."""
+    return -1 if family.at == 0 else 1
 
 
 def stepped(answer, members, steps, direction):
@@ -134,13 +134,12 @@ def why_chosen(job, answer, group, members):
     lines = [f"{number(family.fits)} fit-outs. From each to the next: {moves}."]
     gain = product_sum(job, steps)
     worth = f"A step is worth {gain}" + (f" = {number(family.gain)}" if gain != number(family.gain) else "")
-    if family.gain > 0:
-        lines.append(f"{worth}, a gain, so the last is chosen: {numbers(job, answer, members)}.")
-    elif family.gain < 0:
-        lines.append(f"{worth}, a loss, so the first is chosen: {numbers(job, answer, members)}.")
+    chosen = f"is chosen: {numbers(job, answer, members)}."
+    end, share = ("last", "most") if way(family) > 0 else ("first", "least")
+    if family.gain:
+        lines.append(f"{worth}, a {'gain' if family.gain > 0 else 'loss'}, so the {end} {chosen}")
     else:
-        lines.append(f"{worth}, so all are worth the same, and the last, with the most at {job.name(members[0])}, is chosen: "
-                     f"{numbers(job, answer, members)}.")
+        lines.append(f"{worth}, so all are worth the same, and the {end}, with the {share} at {job.name(members[0])}, {chosen}")
     further = "One more" if way(family) > 0 else "One before it"
     lines.append(f"{further} {would_put(job, next_stops(job, answer, group))}.")
     return lines

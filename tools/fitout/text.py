@@ -60,7 +60,7 @@ WEIGHT = Field("the weight", -(2**31), 2**31 - 1, range_text(WEIGHTS))
 COEFFICIENT = Field("a coefficient", -(2**31), 2**31 - 1, COEFFICIENTS)
 SIDE = Field("the right-hand side", -(2**63), 2**63 - 1, range_text(SIDES))
 NUMBER = Field("the number of a count", 0, 2**16 - 1, f"0 to {MOST_COUNTS - 1}")
-TIMES = Field("times", 1, 2**16 - 1, "1 to 65,535")
+TIMES = Field("times", 0, 2**16 - 1, "0 to 65,535")
 MOST_ROWS = 2**16 - 1  # that the header can tell
 
 
@@ -300,9 +300,13 @@ class Reader:
             if statement.next() in ("count", "tie"):
                 raise Fault(f"{statement.shown()} is not expected here{BETWEEN}")
             if word == "count":
-                counts += counts_of(statement, line)
+                alike = counts_of(statement, line)
+                counts, times = counts + alike, len(alike)
             else:
-                ties.append((line, *tie_of(statement)))
+                sums, times = tie_of(statement)
+                ties.append((line, sums, times))
+            if not times:
+                self.warning(line, "times 0 leaves this out")
             goes_on = statement.take(",")
         statement.end()
         self.read_ties += ties
