@@ -1,5 +1,6 @@
 -- The family invariant holds of the model after any number of equations.
 use mathlib.Core.Path.{_≡_, refl, sym, _∙_, ap, ap₂, subst}
+use mathlib.Core.Logic.{_≢_}
 use mathlib.Core.Option.{Option, none, some}
 use mathlib.Core.List.{map}
 use Prim.Native.Nat.{ℕ, zero, suc, _≤_, _<_}
@@ -10,10 +11,12 @@ use Rattle.lists.proofs.Places.{map-at}
 use Rattle.lists.proofs.Table.{table-at, length-table}
 use Rattle.runs.specs.declared.Run.{Run}
 use Rattle.runs.specs.Run.{empty}
+use Rattle.runs.specs.Workings.{CarryLimits}
 use Rattle.jobs.specs.Job.{Job, form, equation}
+use Rattle.jobs.specs.NormalForm.{normalRow}
 use Rattle.jobs.specs.Component.{merged, lowestBy}
-use Rattle.jobs.specs.ReasonTable.{Coefficients}
 use Rattle.jobs.specs.Lawful.{LawfulJob}
+use Rattle.jobs.proofs.NormalForm.{normal-left-below, normal-right-below, normal-carries}
 use Rattle.families.specs.Model.{State, labelAt, runAt, Indices, runAfter, kept, change, next, stateAfter}
 use Rattle.families.specs.Invariant.{Invariant}
 use Rattle.families.proofs.OneEquation.{Kept, kept-is}
@@ -65,15 +68,15 @@ module _ (l r : ℕ) (s : State) where
 -- ---- one equation more
 module _ {j : Job} {m : ℕ} {s : State} (named : Named j m) (known : Reached j m s) where
   abbrev P : Run
-  P = runAt s (equation j m .left)
+  P = runAt s (normalRow j m .left)
 
   abbrev Q : Run
-  Q = runAt s (equation j m .right)
+  Q = runAt s (normalRow j m .right)
 
   inv : Invariant j m s
   inv = known .invariant
 
-  changes : (o : Option Indices) → Kept (form (equation j m)) (leftLabel j m) (rightLabel j m) P Q o → Reached j (suc m) (change (leftLabel j m) (rightLabel j m) o s)
+  changes : (o : Option Indices) → Kept (form (normalRow j m)) (leftLabel j m) (rightLabel j m) P Q o → Reached j (suc m) (change (leftLabel j m) (rightLabel j m) o s)
   changes none (one, all) =
       subst (Reached j (suc m)) (sym (change-none (leftLabel j m) (rightLabel j m) s)) (record {
         sized = known .sized;
@@ -95,18 +98,18 @@ module _ {j : Job} {m : ℕ} {s : State} (named : Named j m) (known : Reached j 
           label-after (leftLabel j m) (rightLabel j m) s ix i (omega (arith, known .sized .labels))
           ∙ ap (merged (leftLabel j m) (rightLabel j m)) (inv .labels i h) ∙ sym (next-label j m i)
 
-  next-is : next (equation j m) s ≡ change (leftLabel j m) (rightLabel j m) (kept (form (equation j m)) (leftLabel j m) (rightLabel j m) P Q) s
+  next-is : next (normalRow j m) s ≡ change (leftLabel j m) (rightLabel j m) (kept (form (normalRow j m)) (leftLabel j m) (rightLabel j m) P Q) s
   unfolding next
-  next-is = ap₂ (λ l r. change l r (kept (form (equation j m)) l r P Q) s) (inv .labels (equation j m .left) (named .left)) (inv .labels (equation j m .right) (named .right))
+  next-is = ap₂ (λ l r. change l r (kept (form (normalRow j m)) l r P Q) s) (inv .labels (normalRow j m .left) (named .left)) (inv .labels (normalRow j m .right) (named .right))
 
-  next-reached : Coefficients (equation j m) → Reached j (suc m) (next (equation j m) s)
+  next-reached : (leftLabel j m ≢ rightLabel j m → CarryLimits (form (normalRow j m))) → Reached j (suc m) (next (normalRow j m) s)
   next-reached lim =
-      subst (Reached j (suc m)) (sym next-is) (changes (kept (form (equation j m)) (leftLabel j m) (rightLabel j m) P Q)
-      (kept-is (form (equation j m)) (leftLabel j m) (rightLabel j m) P Q lim
-      (inv .form (equation j m .left) (named .left)) (inv .form (equation j m .right) (named .right)) same-many))
+      subst (Reached j (suc m)) (sym next-is) (changes (kept (form (normalRow j m)) (leftLabel j m) (rightLabel j m) P Q)
+      (kept-is (form (normalRow j m)) (leftLabel j m) (rightLabel j m) P Q lim
+      (inv .form (normalRow j m .left) (named .left)) (inv .form (normalRow j m .right) (named .right)) same-many))
     where
       same-many : leftLabel j m ≡ rightLabel j m → P .many ≡ Q .many
-      same-many z = inv .many (equation j m .left) (named .left) ∙ ap (λ g. runAt s g .many) z ∙ sym (inv .many (equation j m .right) (named .right))
+      same-many z = inv .many (normalRow j m .left) (named .left) ∙ ap (λ g. runAt s g .many) z ∙ sym (inv .many (normalRow j m .right) (named .right))
 
 -- ---- all of them, in their order
 module _ (j : Job) (lawful : LawfulJob j) where
@@ -115,7 +118,8 @@ module _ (j : Job) (lawful : LawfulJob j) where
   reached zero h = record { sized = record { labels = start-lengths j .0; runs = start-lengths j .1 }; invariant = begins j (lawful .each-variable) }
   reached (suc m) h =
       let f = lawful .each-equation m h in
-      next-reached (record { left = f .left; right = f .right }) (reached m (omega arith)) (f .coefficients)
+      next-reached (record { left = normal-left-below (equation j m) (length (j .variables)) (f .left) (f .right); right = normal-right-below (equation j m) (length (j .variables)) (f .left) (f .right) })
+      (reached m (omega arith)) (λ n. normal-carries (equation j m) (f .coefficients) (λ e. n (ap (lowestBy j m) e)))
 
   pub invariant : (m : ℕ) → m ≤ length (j .equations) → Invariant j m (stateAfter j m)
   invariant m h = reached m h .invariant

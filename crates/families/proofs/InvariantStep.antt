@@ -11,7 +11,8 @@ use Rattle.ints.proofs.{ℤ, pos, _<ℤ_}
 use Rattle.runs.specs.declared.Run.{Run}
 use Rattle.runs.specs.Run.{nth}
 use Rattle.families.specs.FamilyRun.{FamilyRun}
-use Rattle.jobs.specs.Job.{Job, equation}
+use Rattle.jobs.specs.Job.{Job}
+use Rattle.jobs.specs.NormalForm.{normalRow}
 use Rattle.jobs.specs.Solution.{value}
 use Rattle.jobs.specs.Component.{lowestBy}
 use Rattle.jobs.proofs.Components.{lowestBy-le, lowestBy-self}
@@ -27,7 +28,7 @@ on-family {g} {k} b s f h = record { k = k; is = h; only = λ k′ h′. index-o
 
 -- x is on the families of both components of equation m, and keeps it
 abbrev pub OnBoth : (j : Job) → ℕ → (ℕ → Run) → List ℤ → Type 0
-OnBoth j m run x = OnFamily j m run (leftLabel j m) x × OnFamily j m run (rightLabel j m) x × (value (equation j m) x ≡ equation j m .c)
+OnBoth j m run x = OnFamily j m run (leftLabel j m) x × OnFamily j m run (rightLabel j m) x × (value (normalRow j m) x ≡ normalRow j m .c)
 
 -- the runs before and after equation m
 pub record Step (j : Job) (m : ℕ) (run run′ : ℕ → Run) : Type 0 where
@@ -39,21 +40,21 @@ pub record Step (j : Job) (m : ℕ) (run run′ : ℕ → Run) : Type 0 where
 
 -- ---- the components of an equation that names variables of the job
 pub record Named (j : Job) (m : ℕ) : Type 0 where
-  pub left : equation j m .left < length (j .variables)
-  pub right : equation j m .right < length (j .variables)
+  pub left : normalRow j m .left < length (j .variables)
+  pub right : normalRow j m .right < length (j .variables)
 
 module _ {j : Job} {m : ℕ} (named : Named j m) where
   pub left-below : leftLabel j m < length (j .variables)
-  left-below = omega (arith, lowestBy-le j m (equation j m .left), named .left)
+  left-below = omega (arith, lowestBy-le j m (normalRow j m .left), named .left)
 
   pub right-below : rightLabel j m < length (j .variables)
-  right-below = omega (arith, lowestBy-le j m (equation j m .right), named .right)
+  right-below = omega (arith, lowestBy-le j m (normalRow j m .right), named .right)
 
   pub left-self : lowestBy j m (leftLabel j m) ≡ leftLabel j m
-  left-self = lowestBy-self j m (equation j m .left)
+  left-self = lowestBy-self j m (normalRow j m .left)
 
   pub right-self : lowestBy j m (rightLabel j m) ≡ rightLabel j m
-  right-self = lowestBy-self j m (equation j m .right)
+  right-self = lowestBy-self j m (normalRow j m .right)
 
   pub new-below : newLabel j m < length (j .variables)
   new-below = omega (arith, left-below)
@@ -68,28 +69,28 @@ module _ {j : Job} {m : ℕ} (named : Named j m) where
 -- ---- what the bounds and the equations ask of the joined component: what they ask of both, and equation m
 module _ (j : Job) (m : ℕ) (x : List ℤ) where
   abbrev KeepsBoth : Type 0
-  KeepsBoth = Keeps j m (leftLabel j m) x × Keeps j m (rightLabel j m) x × (value (equation j m) x ≡ equation j m .c)
+  KeepsBoth = Keeps j m (leftLabel j m) x × Keeps j m (rightLabel j m) x × (value (normalRow j m) x ≡ normalRow j m .c)
 
   -- a component whose variables all come into the new one
   part : (g : ℕ) → ((i : ℕ) → lowestBy j m i ≡ g → lowestBy j (suc m) i ≡ newLabel j m) → Keeps j (suc m) (newLabel j m) x → Keeps j m g x
-  part g to q = record { low = λ i h l. q .low i h (to i l); high = λ i h l. q .high i h (to i l); holds = λ k h l. q .holds k (omega arith) (to (equation j k .left) l) }
+  part g to q = record { low = λ i h l. q .low i h (to i l); high = λ i h l. q .high i h (to i l); holds = λ k h l. q .holds k (omega arith) (to (normalRow j k .left) l) }
 
   keeps-joined : Keeps j (suc m) (newLabel j m) x ↔ KeepsBoth
   keeps-joined = (
     λ q. (
       part (leftLabel j m) (λ i l. to-new j m i (inl l)) q,
       part (rightLabel j m) (λ i l. to-new j m i (inr l)) q,
-      q .holds m (omega arith) (to-new j m (equation j m .left) (inl refl)),
+      q .holds m (omega arith) (to-new j m (normalRow j m .left) (inl refl)),
     ),
     λ (p, q, e). record {
       low = λ i h l. ⊎-elim (p .low i h) (q .low i h) (from-new j m i l);
       high = λ i h l. ⊎-elim (p .high i h) (q .high i h) (from-new j m i l);
-      holds = λ k h l. holds p q e k h (ℕ-discrete k m) (from-new j m (equation j k .left) l);
+      holds = λ k h l. holds p q e k h (ℕ-discrete k m) (from-new j m (normalRow j k .left) l);
     },
   )
     where
-      holds : Keeps j m (leftLabel j m) x → Keeps j m (rightLabel j m) x → value (equation j m) x ≡ equation j m .c →
-          (k : ℕ) → k < suc m → Dec (k ≡ m) → InEither j m (equation j k .left) → value (equation j k) x ≡ equation j k .c
+      holds : Keeps j m (leftLabel j m) x → Keeps j m (rightLabel j m) x → value (normalRow j m) x ≡ normalRow j m .c →
+          (k : ℕ) → k < suc m → Dec (k ≡ m) → InEither j m (normalRow j k .left) → value (normalRow j k) x ≡ normalRow j k .c
       holds p q e k h (yes z) l = rw z e
       holds p q e k h (no z) l = ⊎-elim (p .holds k (omega arith)) (q .holds k (omega arith)) l
 
@@ -97,7 +98,7 @@ module _ (j : Job) (m : ℕ) (x : List ℤ) where
 module _ {j : Job} {m : ℕ} (g : ℕ) (n : g ≢ newLabel j m) (s : lowestBy j (suc m) g ≡ g) where
   keeps-other : (x : List ℤ) → Keeps j (suc m) g x ↔ Keeps j m g x
   keeps-other x = (
-    λ q. record { low = λ i h l. q .low i h (up i l); high = λ i h l. q .high i h (up i l); holds = λ k h l. q .holds k (omega arith) (up (equation j k .left) l) },
+    λ q. record { low = λ i h l. q .low i h (up i l); high = λ i h l. q .high i h (up i l); holds = λ k h l. q .holds k (omega arith) (up (normalRow j k .left) l) },
     λ q. record { low = λ i h l. q .low i h (down i l); high = λ i h l. q .high i h (down i l); holds = λ k h l. holds q k h (ℕ-discrete k m) l },
   )
     where
@@ -108,11 +109,11 @@ module _ {j : Job} {m : ℕ} (g : ℕ) (n : g ≢ newLabel j m) (s : lowestBy j 
       down = from-other j m g n
 
       -- equation m is not in it
-      holds : Keeps j m g x → (k : ℕ) → k < suc m → Dec (k ≡ m) → lowestBy j (suc m) (equation j k .left) ≡ g → value (equation j k) x ≡ equation j k .c
+      holds : Keeps j m g x → (k : ℕ) → k < suc m → Dec (k ≡ m) → lowestBy j (suc m) (normalRow j k .left) ≡ g → value (normalRow j k) x ≡ normalRow j k .c
       holds q k h (yes z) l =
-          let e : lowestBy j (suc m) (equation j m .left) ≡ g = subst (λ k. lowestBy j (suc m) (equation j k .left) ≡ g) z l in
-          absurd (apart j m g n s (equation j m .left) (down (equation j m .left) e) .0 refl)
-      holds q k h (no z) l = q .holds k (omega arith) (down (equation j k .left) l)
+          let e : lowestBy j (suc m) (normalRow j m .left) ≡ g = subst (λ k. lowestBy j (suc m) (normalRow j k .left) ≡ g) z l in
+          absurd (apart j m g n s (normalRow j m .left) (down (normalRow j m .left) e) .0 refl)
+      holds q k h (no z) l = q .holds k (omega arith) (down (normalRow j k .left) l)
 
   module _ {run run′ : ℕ → Run} (S : Step j m run run′) (b : g < length (j .variables)) where
     stays : (i : ℕ) → i < length (j .variables) → lowestBy j m i ≡ g → run′ i ≡ run i

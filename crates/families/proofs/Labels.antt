@@ -1,19 +1,20 @@
 -- One equation more, of the components' labels: those of its two variables become the lower of them, and every other stays.
-use mathlib.Core.Path.{_≡_, refl, sym, _∙_, ap}
+use mathlib.Core.Path.{_≡_, sym, _∙_, ap}
 use mathlib.Core.Logic.{_⊎_, inl, inr, _≢_}
 use Prim.Native.Nat.{ℕ, suc, min}
 use native.Mathlib.Omega.{min-cases}
-use Rattle.jobs.specs.Job.{Job, equation}
+use Rattle.jobs.specs.Job.{Job}
+use Rattle.jobs.specs.NormalForm.{normalRow}
 use Rattle.jobs.specs.Component.{merged, lowestBy}
-use Rattle.jobs.proofs.Components.{merged-one, Merged, first, second, other, merged-cases}
+use Rattle.jobs.proofs.Components.{lowest-next, merged-one, Merged, first, second, other, merged-cases}
 
 module _ (j : Job) (m : ℕ) where
   -- the components of equation m's variables, and the one that they become
   abbrev pub leftLabel : ℕ
-  leftLabel = lowestBy j m (equation j m .left)
+  leftLabel = lowestBy j m (normalRow j m .left)
 
   abbrev pub rightLabel : ℕ
-  rightLabel = lowestBy j m (equation j m .right)
+  rightLabel = lowestBy j m (normalRow j m .right)
 
   abbrev pub newLabel : ℕ
   newLabel = min leftLabel rightLabel
@@ -23,8 +24,7 @@ module _ (j : Job) (m : ℕ) where
   InEither i = (lowestBy j m i ≡ leftLabel) ⊎ (lowestBy j m i ≡ rightLabel)
 
   pub next-label : (i : ℕ) → lowestBy j (suc m) i ≡ merged leftLabel rightLabel (lowestBy j m i)
-  unfolding lowestBy
-  next-label i = refl
+  next-label = lowest-next j m
 
   -- a label's way
   pub data Relabelled (i : ℕ) : Type 0 where

@@ -60,10 +60,10 @@ module _ (e : Form) (l r : ℕ) (P Q : Run) where
     rises = up;
   }
 
-  pub kept-is : CarryLimits e → FamilyRun P → FamilyRun Q → (l ≡ r → P .many ≡ Q .many) → Kept e l r P Q (kept e l r P Q)
+  pub kept-is : (l ≢ r → CarryLimits e) → FamilyRun P → FamilyRun Q → (l ≡ r → P .many ≡ Q .many) → Kept e l r P Q (kept e l r P Q)
   unfolding kept
   kept-is lim f g m = go (eqb l r) refl
     where
       go : (t : Bool) → eqb l r ≡ t → Kept e l r P Q (cond t (bothSides (cycle e P Q)) (some (join e P Q (commonNumbers e P Q) (ltb l r))))
       go true t = one-group (eqb-true l r t) (m (eqb-true l r t)) (cycle e P Q) (cycle-leaves e P Q)
-      go false t = two-groups (eqb-false l r t) (join-pairs lim f g (ltb l r)) (join-rises lim f g (ltb l r))
+      go false t = let n = eqb-false l r t in two-groups n (join-pairs (lim n) f g (ltb l r)) (join-rises (lim n) f g (ltb l r))

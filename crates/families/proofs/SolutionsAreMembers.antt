@@ -23,8 +23,10 @@ use Rattle.runs.specs.Run.{nth, empty}
 use Rattle.jobs.specs.declared.Equation.{Equation}
 use Rattle.jobs.specs.Job.{Job, variable, equation, noEquation}
 use Rattle.jobs.specs.Solution.{number, value, IsSolution, solutions}
+use Rattle.jobs.specs.NormalForm.{home, normalRow}
 use Rattle.jobs.specs.Component.{lowestBy, lowest}
 use Rattle.jobs.specs.Family.{componentJob}
+use Rattle.jobs.proofs.NormalForm.{normal-value, normal-constant, normal-home}
 use Rattle.jobs.proofs.Components.{lowest-le}
 use Rattle.jobs.proofs.Solutions.{in-solutions, rising-solutions}
 use Rattle.jobs.proofs.Assembly.{outside-zero, holds-iff, Between, between, component-length, variable-inside, variable-outside, in-equations}
@@ -50,10 +52,14 @@ module _ (j : Job) (l : ℕ) where
     solution-keeps s = record {
       low = λ i h e. bounds i h (lowest-is j i ∙ e) .0;
       high = λ i h e. bounds i h (lowest-is j i ∙ e) .1;
-      holds = λ k h e. holds-iff (componentJob j l .equations) x .0 (s .holds) (equation j k)
-          (in-equations j l (equation j k) .1 (member-at (j .equations) k noEquation h, lowest-is j (equation j k .left) ∙ e));
+      holds = λ k h e. normal-value (equation j k) x ∙ tie k h e ∙ sym (normal-constant (equation j k));
     }
       where
+        tie : (k : ℕ) → k < length (j .equations) → lowestBy j (length (j .equations)) (normalRow j k .left) ≡ l → value (equation j k) x ≡ equation j k .c
+        tie k h e =
+            holds-iff (componentJob j l .equations) x .0 (s .holds) (equation j k)
+            (in-equations j l (equation j k) .1 (member-at (j .equations) k noEquation h, lowest-is j (home (equation j k)) ∙ ap (lowestBy j (length (j .equations))) (sym (normal-home (equation j k))) ∙ e))
+
         bounds : (i : ℕ) → i < length (j .variables) → lowest j i ≡ l → Between (variable j i) (number x i)
         bounds i h e = between (sym (variable-inside j l i h e)) refl (own-bounds i h s)
 
@@ -70,9 +76,11 @@ module _ (j : Job) (l : ℕ) where
         bounds i h (yes e) = let e′ : lowestBy j (length (j .equations)) i ≡ l = sym (lowest-is j i) ∙ e in between (variable-inside j l i h e) refl (q .low i h e′, q .high i h e′)
         bounds i h (no n) = between (variable-outside j l i h n) (rests i h n) (≤ℤ-refl (pos 0), ≤ℤ-refl (pos 0))
 
-        holds : (e : Equation) → e ∈ j .equations → lowest j (e .left) ≡ l → value e x ≡ e .c
-        holds = each-iff (λ e. lowest j (e .left) ≡ l → value e x ≡ e .c) (j .equations) noEquation .0
-            (λ k h z. q .holds k h (sym (lowest-is j (equation j k .left)) ∙ z))
+        holds : (e : Equation) → e ∈ j .equations → lowest j (home e) ≡ l → value e x ≡ e .c
+        holds = each-iff (λ e. lowest j (home e) ≡ l → value e x ≡ e .c) (j .equations) noEquation .0 (λ k h z. sym (normal-value (equation j k) x) ∙ q .holds k h (inside k z) ∙ normal-constant (equation j k))
+          where
+            inside : (k : ℕ) → lowest j (home (equation j k)) ≡ l → lowestBy j (length (j .equations)) (normalRow j k .left) ≡ l
+            inside k z = sym (lowest-is j (normalRow j k .left)) ∙ ap (lowest j) (normal-home (equation j k)) ∙ z
 
   -- ---- the members of the family as lists, with 0 for the variables of other components
   module _ (run : ℕ → Run) where

@@ -14,7 +14,8 @@ use Rattle.runs.specs.declared.Run.{Run}
 use Rattle.runs.specs.Run.{nth}
 use Rattle.families.specs.FamilyRun.{FamilyRun}
 use Rattle.jobs.specs.declared.Equation.{Equation}
-use Rattle.jobs.specs.Job.{Job, form, equation}
+use Rattle.jobs.specs.Job.{Job, form}
+use Rattle.jobs.specs.NormalForm.{normalRow}
 use Rattle.jobs.specs.Solution.{number, value}
 use Rattle.jobs.specs.Component.{lowestBy}
 use Rattle.families.specs.Model.{leading, State, runAt, Indices, through, runAfter}
@@ -68,19 +69,19 @@ module _ {j : Job} {m : ℕ} {s : State} (inv : Invariant j m s) {run′ : ℕ �
 
 module _ {j : Job} {m : ℕ} {s : State} (named : Named j m) (inv : Invariant j m s) where
   abbrev P : Run
-  P = runAt s (equation j m .left)
+  P = runAt s (normalRow j m .left)
 
   abbrev Q : Run
-  Q = runAt s (equation j m .right)
+  Q = runAt s (normalRow j m .right)
 
   left-many : P .many ≡ runAt s (leftLabel j m) .many
-  left-many = inv .many (equation j m .left) (named .left)
+  left-many = inv .many (normalRow j m .left) (named .left)
 
   right-many : Q .many ≡ runAt s (rightLabel j m) .many
-  right-many = inv .many (equation j m .right) (named .right)
+  right-many = inv .many (normalRow j m .right) (named .right)
 
   -- ---- a redundant equation: the components are one already, and it holds at every index
-  module _ (one : leftLabel j m ≡ rightLabel j m) (all : (k : ℕ) → HoldsAt (form (equation j m)) (nth P k) (nth Q k)) where
+  module _ (one : leftLabel j m ≡ rightLabel j m) (all : (k : ℕ) → HoldsAt (form (normalRow j m)) (nth P k) (nth Q k)) where
     new-left : newLabel j m ≡ leftLabel j m
     new-left = ⊎-elim (λ e. e) (λ e. e ∙ sym one) (new-is j m)
 
@@ -108,10 +109,10 @@ module _ {j : Job} {m : ℕ} {s : State} (named : Named j m) (inv : Invariant j 
       at = λ i h l. o .is .at i h (sym (same-label i) ∙ l ∙ new-left);
     })
 
-    keeps : (x : List ℤ) → OnFamily j (suc m) (runAt s) (newLabel j m) x → value (equation j m) x ≡ equation j m .c
+    keeps : (x : List ℤ) → OnFamily j (suc m) (runAt s) (newLabel j m) x → value (normalRow j m) x ≡ normalRow j m .c
     keeps x o =
-        valued (equation j m) x (o .is .at (equation j m .left) (named .left) (to-new j m (equation j m .left) (inl refl)))
-        (o .is .at (equation j m .right) (named .right) (to-new j m (equation j m .right) (inr refl))) ∙ all (o .k)
+        valued (normalRow j m) x (o .is .at (normalRow j m .left) (named .left) (to-new j m (normalRow j m .left) (inl refl)))
+        (o .is .at (normalRow j m .right) (named .right) (to-new j m (normalRow j m .right) (inr refl))) ∙ all (o .k)
 
     pub redundant : Step j m (runAt s) (runAt s)
     redundant = record {
@@ -123,7 +124,7 @@ module _ {j : Job} {m : ℕ} {s : State} (named : Named j m) (inv : Invariant j 
     }
 
   -- ---- an equation that leaves the pairs of indices ix
-  module _ {ix : Indices} (L : Leaves (form (equation j m)) (leftLabel j m) (rightLabel j m) P Q ix) {run′ : ℕ → Run}
+  module _ {ix : Indices} (L : Leaves (form (normalRow j m)) (leftLabel j m) (rightLabel j m) P Q ix) {run′ : ℕ → Run}
       (is : (i : ℕ) → i < length (j .variables) → run′ i ≡ runAfter (leftLabel j m) (rightLabel j m) ix (lowestBy j m i) (runAt s i)) where
     in-left : (i : ℕ) → i < length (j .variables) → lowestBy j m i ≡ leftLabel j m → run′ i ≡ through (runAt s i) (ix .left)
     in-left i h e = is i h ∙ after-left (leftLabel j m) (rightLabel j m) ix (lowestBy j m i) (runAt s i) e
@@ -175,7 +176,7 @@ module _ {j : Job} {m : ℕ} {s : State} (named : Named j m) (inv : Invariant j 
     split x o = (
       on-family (left-below named) (left-self named) (inv .form (leftLabel j m) (left-below named)) p,
       on-family (right-below named) (right-self named) (inv .form (rightLabel j m) (right-below named)) q,
-      valued (equation j m) x (p .at (equation j m .left) (named .left) refl) (q .at (equation j m .right) (named .right) refl) ∙ L .holds (o .k) b,
+      valued (normalRow j m) x (p .at (normalRow j m .left) (named .left) refl) (q .at (normalRow j m .right) (named .right) refl) ∙ L .holds (o .k) b,
     )
       where
         b : o .k < ix .left .many
@@ -189,11 +190,11 @@ module _ {j : Job} {m : ℕ} {s : State} (named : Named j m) (inv : Invariant j 
 
     -- and the members of both at a pair of indices make one of the new family
     module _ {x : List ℤ} (p : OnFamily j m (runAt s) (leftLabel j m) x) (q : OnFamily j m (runAt s) (rightLabel j m) x) where
-      pair : value (equation j m) x ≡ equation j m .c → At ix (p .k) (q .k)
+      pair : value (normalRow j m) x ≡ normalRow j m .c → At ix (p .k) (q .k)
       pair e =
           L .all (p .k) (q .k) (subst (λ n. p .k < n) (sym left-many) (p .is .below)) (subst (λ n. q .k < n) (sym right-many) (q .is .below))
           (λ z. q .only (p .k) (subst (λ g. IsMember j m (runAt s) g (p .k) x) z (p .is)))
-          (sym (valued (equation j m) x (p .is .at (equation j m .left) (named .left) refl) (q .is .at (equation j m .right) (named .right) refl)) ∙ e)
+          (sym (valued (normalRow j m) x (p .is .at (normalRow j m .left) (named .left) refl) (q .is .at (normalRow j m .right) (named .right) refl)) ∙ e)
 
       paired : At ix (p .k) (q .k) → OnFamily j (suc m) run′ (newLabel j m) x
       paired a = on-family (new-below named) (new-self named) (new-form (newLabel j m) (new-below named) (new-self named)) (record {

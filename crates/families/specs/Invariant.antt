@@ -9,16 +9,17 @@ use lib.Signed.{_≤ℤ_, _<ℤ_}
 use Rattle.runs.specs.declared.Run.{Run}
 use Rattle.runs.specs.Run.{nth}
 use Rattle.families.specs.FamilyRun.{FamilyRun}
-use Rattle.jobs.specs.Job.{Job, variable, equation}
+use Rattle.jobs.specs.Job.{Job, variable}
+use Rattle.jobs.specs.NormalForm.{normalRow}
 use Rattle.jobs.specs.Solution.{number, value}
 use Rattle.jobs.specs.Component.{lowestBy}
 use Rattle.families.specs.Model.{State, labelAt, runAt}
 
--- x keeps the bounds of the variables of component g, and of the first m equations those that lie in it hold
+-- x keeps the bounds of the variables of component g, and of the first m equations, in normal form, those that lie in it hold
 pub record Keeps (j : Job) (m g : ℕ) (x : List ℤ) : Type 0 where
   pub low : (i : ℕ) → i < length (j .variables) → lowestBy j m i ≡ g → variable j i .low ≤ℤ number x i
   pub high : (i : ℕ) → i < length (j .variables) → lowestBy j m i ≡ g → number x i ≤ℤ variable j i .high
-  pub holds : (k : ℕ) → k < m → lowestBy j m (equation j k .left) ≡ g → value (equation j k) x ≡ equation j k .c
+  pub holds : (k : ℕ) → k < m → lowestBy j m (normalRow j k .left) ≡ g → value (normalRow j k) x ≡ normalRow j k .c
 
 -- x is number k of the family of component g: base + step·k at all its variables
 pub record IsMember (j : Job) (m : ℕ) (run : ℕ → Run) (g k : ℕ) (x : List ℤ) : Type 0 where

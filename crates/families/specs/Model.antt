@@ -18,7 +18,8 @@ use Rattle.runs.specs.Method.{progression}
 use Rattle.runs.specs.Model.{meetModel, carryModel}
 use Rattle.families.specs.FamilyRun.{turned, upward, indexOf, strideIn, across}
 use Rattle.jobs.specs.declared.Equation.{Equation}
-use Rattle.jobs.specs.Job.{Job, form, variable, equation}
+use Rattle.jobs.specs.Job.{Job, form, variable}
+use Rattle.jobs.specs.NormalForm.{normal, normalRow}
 use Rattle.jobs.specs.Component.{merged}
 
 -- ---- the state, while equations are taken in
@@ -140,11 +141,12 @@ next e s =
     let r = labelAt s (e .right) in
     change l r (kept (form e) l r (runAt s (e .left)) (runAt s (e .right))) s
 
--- ---- after the first m equations, in their order
+-- ---- after the first m equations, in their order and in normal form: one that is not binary has one variable twice, and is taken as an
+-- equation inside its component
 unfoldable pub stateAfter : Job → ℕ → State
-unfolding startState next
+unfolding startState next normal
 stateAfter j zero = startState j
-stateAfter j (suc m) = let s = stateAfter j m in next (equation j m) s
+stateAfter j (suc m) = let s = stateAfter j m in next (normalRow j m) s
 
 -- and after all of them
 unfoldable pub stateAfterAll : Job → State

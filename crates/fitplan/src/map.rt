@@ -108,8 +108,10 @@ fn equation(area: &Area, k: usize, at: usize) -> Line
 
 fn kind(front: Line, kind: u64) -> Line {
     if kind == 1 {
-        front.text(b"joins")
-    } else {
-        front.text(b"ring")
+        return front.text(b"joins");
     }
+    if kind == 2 {
+        return front.text(b"ring");
+    }
+    front.text(b"fixes")
 }

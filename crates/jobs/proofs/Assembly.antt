@@ -21,23 +21,25 @@ use Rattle.lists.proofs.Keep.{in-keep}
 use Rattle.lists.proofs.Table.{length-table, table-at}
 use Rattle.jobs.specs.Job.{Variable, Equation, Job, variable, equation, noVariable, noEquation}
 use Rattle.jobs.specs.Solution.{number, value, IsSolution, solutions, best}
-use Rattle.jobs.specs.Component.{forth, Joined, lowest, leads}
+use Rattle.jobs.specs.NormalForm.{home, normal}
+use Rattle.jobs.specs.Component.{Joined, lowest, leads}
 use Rattle.jobs.specs.Family.{componentJob, fits}
 use Rattle.jobs.specs.Decide.{equal?}
 use Rattle.jobs.specs.Verdict.{firstWithout}
 use Rattle.jobs.specs.Demands.{SolvesGroup}
 use Rattle.jobs.proofs.FirstOf.{first-rising, none-holds}
 use Rattle.jobs.proofs.Solutions.{in-solutions, none-iff, best-is}
-use Rattle.jobs.proofs.Components.{chain-edge, joined-iff, rising-leads, lead-in}
+use Rattle.jobs.proofs.NormalForm.{normal-value, normal-home, home-below, normal-left-below, normal-right-below}
+use Rattle.jobs.proofs.Components.{one-component, joined-iff, rising-leads, lead-in}
 
 -- every equation holds, by places and by members
 pub holds-iff : (es : List Equation) (x : List ℤ) →
     ((k : ℕ) → k < length es → value (getD es k noEquation) x ≡ getD es k noEquation .c) ↔ ((e : Equation) → e ∈ es → value e x ≡ e .c)
 holds-iff es x = each-iff (λ e. value e x ≡ e .c) es noEquation
 
--- lists that give the same to the two variables of an equation
-same-value : (e : Equation) (x y : List ℤ) → number x (e .left) ≡ number y (e .left) → number x (e .right) ≡ number y (e .right) → value e x ≡ value e y
-same-value e x y p q = ap₂ (λ u v. e .a *ℤ u +ℤ e .b *ℤ v) p q
+-- lists that give the same to the two variables of an equation in normal form
+same-value : (e : Equation) (x y : List ℤ) → number x (normal e .left) ≡ number y (normal e .left) → number x (normal e .right) ≡ number y (normal e .right) → value e x ≡ value e y
+same-value e x y p q = sym (normal-value e x) ∙ ap₂ (λ u v. normal e .a *ℤ u +ℤ normal e .b *ℤ v) p q ∙ normal-value e y
 
 -- a number from the low to the high of a variable
 abbrev pub Between : Variable → ℤ → Type 0
@@ -71,11 +73,11 @@ module _ (j : Job) where
         let (low, high) = between (sym (variable-outside i h n)) refl (s .low i b, s .high i b) in
         le-antisym (number x i) (pos 0) high low
 
-    pub in-equations : (e : Equation) → (e ∈ componentJob j l .equations) ↔ ((e ∈ j .equations) × (lowest j (e .left) ≡ l))
+    pub in-equations : (e : Equation) → (e ∈ componentJob j l .equations) ↔ ((e ∈ j .equations) × (lowest j (home e) ≡ l))
     unfolding componentJob
-    in-equations e = Iff·trans (in-keep (λ e. eqb (lowest j (e .left)) l) (j .equations) e) (
-      λ (m, t). (m, eqb-true (lowest j (e .left)) l t),
-      λ (m, q). (m, eq-eqb (lowest j (e .left)) l q),
+    in-equations e = Iff·trans (in-keep (λ e. eqb (lowest j (home e)) l) (j .equations) e) (
+      λ (m, t). (m, eqb-true (lowest j (home e)) l t),
+      λ (m, q). (m, eq-eqb (lowest j (home e)) l q),
     )
 
     -- ---- a solution of it is a solution of the component, as document 01 says
@@ -88,7 +90,7 @@ module _ (j : Job) where
         long = s .long ∙ component-length;
         low = λ i h q. within i h q .0;
         high = λ i h q. within i h q .1;
-        holds = each-iff (λ e. Joined j l (e .left) → value e x ≡ e .c) (j .equations) noEquation .1 tie;
+        holds = each-iff (λ e. Joined j l (home e) → value e x ≡ e .c) (j .equations) noEquation .1 tie;
         elsewhere = λ i h n. outside-zero x s i h (λ e. n (inside-iff i .1 e));
       }
         where
@@ -97,8 +99,8 @@ module _ (j : Job) where
               let b : i < length (componentJob j l .variables) = omega (arith, component-length) in
               between (sym (variable-inside i h (inside-iff i .0 q))) refl (s .low i b, s .high i b)
 
-          tie : (e : Equation) → e ∈ j .equations → Joined j l (e .left) → value e x ≡ e .c
-          tie e m q = holds-iff (componentJob j l .equations) x .0 (s .holds) e (in-equations e .1 (m, inside-iff (e .left) .0 q))
+          tie : (e : Equation) → e ∈ j .equations → Joined j l (home e) → value e x ≡ e .c
+          tie e m q = holds-iff (componentJob j l .equations) x .0 (s .holds) e (in-equations e .1 (m, inside-iff (home e) .0 q))
 
       solved : SolvesGroup j l x → IsSolution (componentJob j l) x
       solved s = record {
@@ -118,17 +120,20 @@ module _ (j : Job) where
           tie : (e : Equation) → e ∈ componentJob j l .equations → value e x ≡ e .c
           tie e m =
               let (k, q) = in-equations e .0 m in
-              each-iff (λ e. Joined j l (e .left) → value e x ≡ e .c) (j .equations) noEquation .0 (s .holds) e k (inside-iff (e .left) .1 q)
+              each-iff (λ e. Joined j l (home e) → value e x ≡ e .c) (j .equations) noEquation .0 (s .holds) e k (inside-iff (home e) .1 q)
 
       pub solves-iff : SolvesGroup j l x ↔ IsSolution (componentJob j l) x
       solves-iff = (solved, solves)
 
-  -- both variables of an equation are in one component
-  pub one-group : (e : Equation) → e ∈ j .equations → lowest j (e .left) ≡ lowest j (e .right)
-  one-group = each-iff (λ e. lowest j (e .left) ≡ lowest j (e .right)) (j .equations) noEquation .0 tied
-    where
-      tied : (k : ℕ) → k < length (j .equations) → lowest j (equation j k .left) ≡ lowest j (equation j k .right)
-      tied k h = joined-iff j (equation j k .left) (equation j k .right) .0 (chain-edge k h (forth refl refl))
+  -- both variables of an equation in normal form are in its component
+  pub left-inside : (e : Equation) → lowest j (normal e .left) ≡ lowest j (home e)
+  left-inside e = ap (lowest j) (normal-home e)
+
+  pub right-inside : (e : Equation) → e ∈ j .equations → lowest j (normal e .right) ≡ lowest j (home e)
+  unfolding lowest
+  right-inside =
+      each-iff (λ e. lowest j (normal e .right) ≡ lowest j (home e)) (j .equations) noEquation .0
+      (λ k h. sym (one-component j (length (j .equations)) k h) ∙ left-inside (equation j k))
 
   -- the part of a list that belongs to the component of l, and 0 elsewhere
   abbrev pub partOf : ℕ → List ℤ → List ℤ
@@ -152,6 +157,9 @@ module _ (j : Job) where
 
   -- ---- the theorem, where every equation names variables of the job
   module _ (named : (e : Equation) → e ∈ j .equations → (e .left < length (j .variables)) × (e .right < length (j .variables))) where
+    normal-named : (e : Equation) → e ∈ j .equations → (normal e .left < length (j .variables)) × (normal e .right < length (j .variables))
+    normal-named e m = let (a, b) = named e m in (normal-left-below e (length (j .variables)) a b, normal-right-below e (length (j .variables)) a b)
+
     -- a solution of the job, set to 0 outside a component, is a solution of the component
     pub part-solution : (l : ℕ) (x : List ℤ) → IsSolution j x → IsSolution (componentJob j l) (partOf l x)
     part-solution l x s = record {
@@ -168,9 +176,10 @@ module _ (j : Job) where
             go (yes e) = between (variable-inside l i h e) (part-inside l x i h e) (s .low i h, s .high i h)
             go (no n) = between (variable-outside l i h n) (part-outside l x i h n) (≤ℤ-refl (pos 0), ≤ℤ-refl (pos 0))
 
-        tie : (e : Equation) → (e ∈ j .equations) × (lowest j (e .left) ≡ l) → value e (partOf l x) ≡ e .c
+        tie : (e : Equation) → (e ∈ j .equations) × (lowest j (home e) ≡ l) → value e (partOf l x) ≡ e .c
         tie e (m, q) =
-            same-value e (partOf l x) x (part-inside l x (e .left) (named e m .0) q) (part-inside l x (e .right) (named e m .1) (sym (one-group e m) ∙ q))
+            same-value e (partOf l x) x
+            (part-inside l x (normal e .left) (normal-named e m .0) (left-inside e ∙ q)) (part-inside l x (normal e .right) (normal-named e m .1) (right-inside e m ∙ q))
             ∙ holds-iff (j .equations) x .0 (s .holds) e m
 
     -- solutions of all the components make one of the job
@@ -190,10 +199,14 @@ module _ (j : Job) where
 
         tie : (e : Equation) → e ∈ j .equations → value e (assembled f) ≡ e .c
         tie e m =
-            let l = lowest j (e .left) in
-            let (a, b) = named e m in
-            same-value e (assembled f) (f l) (assembled-at f (e .left) a) (assembled-at f (e .right) b ∙ ap (λ l. number (f l) (e .right)) (sym (one-group e m)))
-            ∙ holds-iff (componentJob j l .equations) (f l) .0 (each l (lead-in j (e .left) a) .holds) e (in-equations l e .1 (m, refl))
+            let l = lowest j (home e) in
+            let (a, b) = normal-named e m in
+            let (c, d) = named e m in
+            same-value e (assembled f) (f l) (at (normal e .left) a (left-inside e)) (at (normal e .right) b (right-inside e m))
+            ∙ holds-iff (componentJob j l .equations) (f l) .0 (each l (lead-in j (home e) (home-below e (length (j .variables)) c d)) .holds) e (in-equations l e .1 (m, refl))
+          where
+            at : (i : ℕ) → i < length (j .variables) → lowest j i ≡ lowest j (home e) → number (assembled f) i ≡ number (f (lowest j (home e))) i
+            at i h q = assembled-at f i h ∙ ap (λ l. number (f l) i) q
 
     pub some-iff : ((x : List ℤ) × IsSolution j x) ↔ ((l : ℕ) → l ∈ leads j → (x : List ℤ) × IsSolution (componentJob j l) x)
     some-iff = (

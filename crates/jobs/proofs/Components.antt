@@ -1,6 +1,6 @@
 -- Two variables are joined exactly when they have the same lowest variable, which is joined to them and the lowest that is;
 -- and components are numbered in the order of their lowest variable.
-use mathlib.Core.Path.{_≡_, refl, sym, _∙_, ap}
+use mathlib.Core.Path.{_≡_, refl, sym, _∙_, ap, subst}
 use mathlib.Core.Logic.{_↔_, _⊎_, inl, inr, _≢_, Iff·trans}
 use mathlib.Core.Bool.{true, or-true}
 use Prim.Native.Nat.{ℕ, zero, suc, _≤_, _<_, min}
@@ -16,7 +16,9 @@ use Rattle.lists.proofs.Members.{member-at, place-of}
 use Rattle.lists.proofs.Keep.{in-keep, rising-keep, length-keep, rank-at}
 use Rattle.lists.proofs.Table.{in-upTo, rising-upTo, length-upTo}
 use Rattle.jobs.specs.Job.{Equation, Job, equation}
+use Rattle.jobs.specs.NormalForm.{Binary, normalRow}
 use Rattle.jobs.specs.Component.{Connects, forth, back, Chain, stay, onward, Joined, Joins, merged, lowestBy, lowest, leads, componentCount, component}
+use Rattle.jobs.proofs.NormalForm.{binary?, normal-binary, normal-one, normal-two}
 
 -- ---- chains of equations
 module _ {j : Job} where
@@ -36,8 +38,8 @@ module _ {j : Job} where
   chain-back (onward k h s t) = chain-then (chain-edge k h (turn t)) (chain-back s)
     where
       turn : {e : Equation} {p q : ℕ} → Connects e p q → Connects e q p
-      turn (forth a b) = back a b
-      turn (back a b) = forth a b
+      turn (forth t a b) = back t a b
+      turn (back t a b) = forth t a b
 
 -- ---- one equation more: p and q, the lowest variables of the components that it joins, become the lower of them
 pub merged-one : (p q i : ℕ) → (i ≡ p) ⊎ (i ≡ q) → merged p q i ≡ min p q
@@ -81,37 +83,47 @@ merged-chain {j} {m} p q i s = go (merged-cases p q i)
 module _ (j : Job) where
   -- before equation m is used, those of its two variables
   abbrev left : ℕ → ℕ
-  left m = lowestBy j m (equation j m .left)
+  left m = lowestBy j m (normalRow j m .left)
 
   abbrev right : ℕ → ℕ
-  right m = lowestBy j m (equation j m .right)
+  right m = lowestBy j m (normalRow j m .right)
+
+  lowest-start : (i : ℕ) → lowestBy j 0 i ≡ i
+  unfolding lowestBy
+  lowest-start i = refl
+
+  pub lowest-next : (m i : ℕ) → lowestBy j (suc m) i ≡ merged (left m) (right m) (lowestBy j m i)
+  unfolding lowestBy
+  lowest-next m i = refl
 
   pub lowestBy-le : (m i : ℕ) → lowestBy j m i ≤ i
-  unfolding lowestBy
-  lowestBy-le zero i = omega arith
-  lowestBy-le (suc m) i = omega (arith, lowestBy-le m i, merged-le (left m) (right m) (lowestBy j m i))
+  lowestBy-le zero i = omega (arith, lowest-start i)
+  lowestBy-le (suc m) i = omega (arith, lowest-next m i, lowestBy-le m i, merged-le (left m) (right m) (lowestBy j m i))
 
-  -- it is joined
+  -- it is joined: along equation m where that is binary, and else no way is needed
   pub chain-lowestBy : (m i : ℕ) → Chain j m i (lowestBy j m i)
-  unfolding lowestBy
-  chain-lowestBy zero i = stay refl
-  chain-lowestBy (suc m) i = chain-then (longer (chain-lowestBy m i)) (merged-chain (left m) (right m) (lowestBy j m i) (across (chain-lowestBy m)))
+  chain-lowestBy zero i = stay (sym (lowest-start i))
+  chain-lowestBy (suc m) i =
+      rw (lowest-next m i) (chain-then (longer (chain-lowestBy m i)) (merged-chain (left m) (right m) (lowestBy j m i) (across (chain-lowestBy m) (binary? (equation j m)))))
     where
       longer : {a b : ℕ} → Chain j m a b → Chain j (suc m) a b
       longer = chain-more (omega arith)
 
-      across : ((i : ℕ) → Chain j m i (lowestBy j m i)) → Chain j (suc m) (left m) (right m)
-      across to =
-          chain-then (chain-back (longer (to (equation j m .left)))) (chain-then (chain-edge m (omega arith) (forth refl refl)) (longer (to (equation j m .right))))
+      across : ((i : ℕ) → Chain j m i (lowestBy j m i)) → Dec (Binary (equation j m)) → Chain j (suc m) (left m) (right m)
+      across to (no n) = stay (ap (lowestBy j m) (normal-one (equation j m) n))
+      across to (yes b) =
+          let e = normal-binary (equation j m) b in
+          chain-then (chain-back (longer (to (normalRow j m .left))))
+          (chain-then (chain-edge m (omega arith) (forth b (sym (ap (λ e. e .left) e)) (sym (ap (λ e. e .right) e)))) (longer (to (normalRow j m .right))))
 
-  -- each of these equations ties two variables of one component
-  tied : (m k : ℕ) → k < m → lowestBy j m (equation j k .left) ≡ lowestBy j m (equation j k .right)
-  unfolding lowestBy
-  tied zero k h = absurd (omega arith)
-  tied (suc m) k h = go (ℕ-discrete k m) (tied m k)
+  -- each of these equations has its variables in one component
+  pub one-component : (m k : ℕ) → k < m → lowestBy j m (normalRow j k .left) ≡ lowestBy j m (normalRow j k .right)
+  one-component zero k h = absurd (omega arith)
+  one-component (suc m) k h =
+      lowest-next m (normalRow j k .left) ∙ go (ℕ-discrete k m) (one-component m k) ∙ sym (lowest-next m (normalRow j k .right))
     where
-      go : Dec (k ≡ m) → (k < m → lowestBy j m (equation j k .left) ≡ lowestBy j m (equation j k .right)) →
-          merged (left m) (right m) (lowestBy j m (equation j k .left)) ≡ merged (left m) (right m) (lowestBy j m (equation j k .right))
+      go : Dec (k ≡ m) → (k < m → lowestBy j m (normalRow j k .left) ≡ lowestBy j m (normalRow j k .right)) →
+          merged (left m) (right m) (lowestBy j m (normalRow j k .left)) ≡ merged (left m) (right m) (lowestBy j m (normalRow j k .right))
       go (yes e) f = rw e (merged-one (left m) (right m) (left m) (inl refl) ∙ sym (merged-one (left m) (right m) (right m) (inr refl)))
       go (no n) f = ap (merged (left m) (right m)) (f (omega arith))
 
@@ -120,9 +132,13 @@ module _ (j : Job) where
   chain-same {m} (stay e) = ap (lowestBy j m) e
   chain-same {m} (onward {q} {r} k h s t) = chain-same s ∙ step t
     where
+      -- a binary equation is its own normal form
+      tied : Binary (equation j k) → lowestBy j m (equation j k .left) ≡ lowestBy j m (equation j k .right)
+      tied b = let e = normal-binary (equation j k) b in subst (λ e. lowestBy j m (e .left) ≡ lowestBy j m (e .right)) e (one-component m k h)
+
       step : Connects (equation j k) q r → lowestBy j m q ≡ lowestBy j m r
-      step (forth a b) = ap (lowestBy j m) (sym a) ∙ tied m k h ∙ ap (lowestBy j m) b
-      step (back a b) = ap (lowestBy j m) (sym b) ∙ sym (tied m k h) ∙ ap (lowestBy j m) a
+      step (forth t a b) = ap (lowestBy j m) (sym a) ∙ tied t ∙ ap (lowestBy j m) b
+      step (back t a b) = ap (lowestBy j m) (sym b) ∙ sym (tied t) ∙ ap (lowestBy j m) a
 
   pub chain-iff : (m p q : ℕ) → Chain j m p q ↔ (lowestBy j m p ≡ lowestBy j m q)
   chain-iff m p q = (chain-same, from)
@@ -131,7 +147,15 @@ module _ (j : Job) where
       from e = chain-then (chain-lowestBy m p) (rw e (chain-back (chain-lowestBy m q)))
 
   pub joins-iff : (k : ℕ) → Joins j k ↔ (left k ≢ right k)
-  joins-iff k = let (to, from) = chain-iff k (equation j k .left) (equation j k .right) in (λ n e. n (from e), λ n c. n (to c))
+  joins-iff k = (λ (b, n) e. n (chain-iff k (equation j k .left) (equation j k .right) .1 (as-written b e)), from)
+    where
+      as-written : Binary (equation j k) → left k ≡ right k → lowestBy j k (equation j k .left) ≡ lowestBy j k (equation j k .right)
+      as-written b = subst (λ e. lowestBy j k (e .left) ≡ lowestBy j k (e .right)) (normal-binary (equation j k) b)
+
+      from : left k ≢ right k → Joins j k
+      from n =
+          let b = normal-two (equation j k) (λ e. n (ap (lowestBy j k) e)) in
+          (b, λ c. n (subst (λ e. lowestBy j k (e .left) ≡ lowestBy j k (e .right)) (sym (normal-binary (equation j k) b)) (chain-same c)))
 
   pub lowestBy-self : (m i : ℕ) → lowestBy j m (lowestBy j m i) ≡ lowestBy j m i
   lowestBy-self m i = sym (chain-same (chain-lowestBy m i))

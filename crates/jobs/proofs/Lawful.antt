@@ -63,8 +63,7 @@ module _ (c : Call) where
       row : (k : ℕ) → k < equationCount s → LawfulEquation (length (jobOf s .variables)) (equation (jobOf s) k)
       row k h = record {
         left = let l : ¬ (variableCount s ≤ equation (jobOf s) k .left) = λ l. named (inl l) in omega (arith, variables-of s);
-        right = let l : ¬ (variableCount s ≤ equation (jobOf s) k .right) = λ l. named (inr (inl l)) in omega (arith, variables-of s);
-        different = λ l. named (inr (inr l));
+        right = let l : ¬ (variableCount s ≤ equation (jobOf s) k .right) = λ l. named (inr l) in omega (arith, variables-of s);
         coefficients = decided (coefficients? (equation (jobOf s) k)) (λ n. sound (EquationRange k) (h, n));
       }
         where

@@ -3,6 +3,8 @@
 
 -- the rows of the job that bytes say: `variable-of`, `equation-of`
 pub mod JobOf
+-- an equation in normal form: `normal-value`, `normal-home`, `binary-iff`
+pub mod NormalForm
 -- what a branch on a test says
 pub mod Branches
 -- the first member of a list of which a statement holds: `first-iff`

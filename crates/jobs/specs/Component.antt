@@ -10,11 +10,12 @@ use lib.ListN.{length}
 use Rattle.lists.specs.Keep.{keep}
 use Rattle.lists.specs.Table.{table, upTo}
 use Rattle.jobs.specs.Job.{Equation, Job, equation}
+use Rattle.jobs.specs.NormalForm.{Binary, normal, normalRow}
 
--- the equation is between p and q
+-- the equation joins p and q
 pub data Connects (e : Equation) (p q : ℕ) : Type 0 where
-  forth : e .left ≡ p → e .right ≡ q → Connects e p q
-  back : e .left ≡ q → e .right ≡ p → Connects e p q
+  forth : Binary e → e .left ≡ p → e .right ≡ q → Connects e p q
+  back : Binary e → e .left ≡ q → e .right ≡ p → Connects e p q
 
 -- a path from p to q along the first m equations of the job
 pub data Chain (j : Job) (m p : ℕ) : ℕ → Type 0 where
@@ -38,9 +39,9 @@ pub record Numbered (j : Job) (g : ℕ) (group : ℕ → ℕ) : Type 0 where
   pub each : (k : ℕ) → (k < g) ↔ ((i : ℕ) × ((i < length (j .variables)) × (group i ≡ k)))
 
 -- equation k joins two sets that the earlier ones left separate (proofs/Components.antt: exactly when its two variables have
--- different lowest variables then)
+-- different lowest variables then, in normal form)
 abbrev pub Joins : Job → ℕ → Type 0
-Joins j k = ¬ Chain j k (equation j k .left) (equation j k .right)
+Joins j k = Binary (equation j k) × (¬ Chain j k (equation j k .left) (equation j k .right))
 
 -- ---- the same as functions that compute; the demands do without them. A group is named by its lowest variable
 -- (proofs/Components.antt: two variables are joined exactly when they have the same lowest variable, and it is joined to them
@@ -50,18 +51,16 @@ Joins j k = ¬ Chain j k (equation j k .left) (equation j k .right)
 abbrev pub merged : ℕ → ℕ → ℕ → ℕ
 merged p q i = cond (eqb i p || eqb i q) (min p q) i
 
--- the lowest variable to which the first m equations join i
+-- the lowest variable to which the first m equations join i. In normal form one that is not binary has the same variable twice, and so
+-- brings nothing together.
 unfoldable pub lowestBy : Job → ℕ → ℕ → ℕ
+unfolding normal
 lowestBy j zero i = i
-lowestBy j (suc m) i = merged (lowestBy j m (equation j m .left)) (lowestBy j m (equation j m .right)) (lowestBy j m i)
+lowestBy j (suc m) i = merged (lowestBy j m (normalRow j m .left)) (lowestBy j m (normalRow j m .right)) (lowestBy j m i)
 
 unfoldable pub lowest : Job → ℕ → ℕ
 unfolding lowestBy
 lowest j i = lowestBy j (length (j .equations)) i
-
--- the group that an equation belongs to, by its lowest variable
-abbrev pub home : Job → Equation → ℕ
-home j e = lowest j (e .left)
 
 -- ---- groups by their numbers (proofs/Numbering.antt: `leads` are those that `IsLead`, and `component` numbers the groups)
 

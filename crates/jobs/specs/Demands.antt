@@ -17,6 +17,7 @@ use Rattle.jobs.specs.Job.{Job, jobOf, variable, equation}
 use Rattle.jobs.specs.Solution.{number, value, IsSolution, objective, Optimal}
 use Rattle.jobs.specs.SheetOffsets.{groupRowsAt}
 use Rattle.jobs.specs.MapOffsets.{mapEquationsAt, mapLength}
+use Rattle.jobs.specs.NormalForm.{Binary, home}
 use Rattle.jobs.specs.Component.{Joined, IsLead, Numbered, Joins}
 use Rattle.jobs.specs.Structure.{degree}
 use Rattle.jobs.specs.ReasonTable.{Reported}
@@ -100,7 +101,7 @@ pub record SolvesGroup (j : Job) (l : ℕ) (x : List ℤ) : Type 0 where
   pub long : length x ≡ length (j .variables)
   pub low : (i : ℕ) → i < length (j .variables) → Joined j l i → variable j i .low ≤ℤ number x i
   pub high : (i : ℕ) → i < length (j .variables) → Joined j l i → number x i ≤ℤ variable j i .high
-  pub holds : (k : ℕ) → k < length (j .equations) → Joined j l (equation j k .left) → value (equation j k) x ≡ equation j k .c
+  pub holds : (k : ℕ) → k < length (j .equations) → Joined j l (home (equation j k)) → value (equation j k) x ≡ equation j k .c
   pub elsewhere : (i : ℕ) → i < length (j .variables) → ¬ Joined j l i → number x i ≡ pos 0
 
 -- of the group of l, its lowest variable, whose number on the sheet is g: base, steps and fits give every solution, each exactly
@@ -164,7 +165,7 @@ pub record BestOn (j : Job) (w : ℤ) (after : List ℕ) : Type 0 where
 pub record CannotBeBettered (c : Call) (v : Verdict) (x : Areas) : Type 0 where
   pub best : (w : ℤ) → v ≡ planned w → IfLent (x .sheet) (BestOn (jobOf (c .job)) w)
 
--- ---- demand of the repair bench (document 02, #101): a map area that is lent shows how the job hangs together, on planned and on no
+-- ---- demand of the repair bench (document 02, #101 and #102): a map area that is lent shows how the job hangs together, on planned and on no
 -- fit; j says how many rows there are
 
 abbrev pub mapGroupOn : List ℕ → ℕ → ℕ
@@ -180,7 +181,7 @@ abbrev pub kindOn : Job → List ℕ → ℕ → ℕ
 kindOn j after k = u16 after (mapEquationsAt j + 4 * k + 2)
 
 -- groups by 01's number, of the counts and of the equations; how many equations name a count; and kind 1 for those equations that
--- join two sets which the earlier ones left separate, kind 2 for the others
+-- join two sets which the earlier ones left separate, kind 2 for the others that join counts, kind 3 for those that do not
 pub record MapOn (j : Job) (after : List ℕ) : Type 0 where
   pub mark : take 4 after ≡ mapMark
   pub variables : u16 after 4 ≡ length (j .variables)
@@ -190,9 +191,10 @@ pub record MapOn (j : Job) (after : List ℕ) : Type 0 where
   pub groups : Numbered j (u16 after 16) (mapGroupOn after)
   pub zeros : unsigned 6 after 18 ≡ 0
   pub named : (i : ℕ) → i < length (j .variables) → namedOn after i ≡ degree j i
-  pub equation-group : (k : ℕ) → k < length (j .equations) → equationGroupOn j after k ≡ mapGroupOn after (equation j k .left)
+  pub equation-group : (k : ℕ) → k < length (j .equations) → equationGroupOn j after k ≡ mapGroupOn after (home (equation j k))
   pub joins : (k : ℕ) → k < length (j .equations) → (kindOn j after k ≡ 1) ↔ Joins j k
-  pub rings : (k : ℕ) → k < length (j .equations) → (kindOn j after k ≡ 2) ↔ (¬ Joins j k)
+  pub rings : (k : ℕ) → k < length (j .equations) → (kindOn j after k ≡ 2) ↔ (Binary (equation j k) × (¬ Joins j k))
+  pub fixes : (k : ℕ) → k < length (j .equations) → (kindOn j after k ≡ 3) ↔ (¬ Binary (equation j k))
 
 pub record ShowsMap (c : Call) (v : Verdict) (x : Areas) : Type 0 where
   pub fit : (w : ℤ) → v ≡ planned w → IfLent (x .map) (MapOn (jobOf (c .job)))

@@ -11,15 +11,16 @@ use Rattle.lists.specs.Table.{table}
 use Rattle.runs.specs.declared.Run.{Run}
 use Rattle.jobs.specs.Job.{Job, variable, noVariable}
 use Rattle.jobs.specs.Solution.{number, solutions, objective, best}
-use Rattle.jobs.specs.Component.{lowest, home}
+use Rattle.jobs.specs.NormalForm.{home}
+use Rattle.jobs.specs.Component.{lowest}
 
 -- the own job of the group whose lowest variable is l: its variables and its equations. Every other variable stays in its
 -- place, held at 0 and without weight, so that a solution is again a list of n numbers.
 unfoldable pub componentJob : Job → ℕ → Job
-unfolding keep table lowest
+unfolding keep table lowest home
 componentJob j l = record {
   variables = table (λ i. cond (eqb (lowest j i) l) (variable j i) noVariable) (length (j .variables));
-  equations = keep (λ e. eqb (home j e) l) (j .equations);
+  equations = keep (λ e. eqb (lowest j (home e)) l) (j .equations);
 }
 
 -- ---- what is read off its solutions, which stand in lexicographic order; c is the group's own job

@@ -11,11 +11,9 @@ use Rattle.reasons.specs.Numbers.{numberOf, rowOf}
 use Rattle.jobs.specs.declared.Checked.{Checked}
 use Rattle.jobs.specs.declared.Checked.the-variants.{Accepted, Refused}
 use Rattle.runs.specs.Run.{bound}
-use Rattle.runs.specs.Workings.{carryLimits}
-use Rattle.runs.proofs.Refusals.{in-limits-iff}
 use Rattle.bytes.specs.LittleEndian.{u32}
-use Rattle.jobs.specs.Decide.{tested, below?, atMost?, equal?, within?, by, both, either, not?, list?, firstOf}
-use Rattle.jobs.specs.Job.{Variable, Equation, jobOf, form, variableCount, equationCount, equationRowAt, variable, equation}
+use Rattle.jobs.specs.Decide.{below?, atMost?, equal?, within?, by, both, either, not?, list?, firstOf}
+use Rattle.jobs.specs.Job.{Variable, Equation, jobOf, variableCount, equationCount, equationRowAt, variable, equation}
 use Rattle.jobs.specs.SheetOffsets.{groupRowsAt}
 use Rattle.jobs.specs.MapOffsets.{mapLength}
 use Rattle.jobs.specs.Call.{Call, lendingNothing}
@@ -38,10 +36,12 @@ inRange? v =
     (both (within? bound (v .low)) (both (within? bound (v .high)) (within? 1000000 (v .weight))))
 
 abbrev pub coefficients? : (e : Equation) → Dec (Coefficients e)
-coefficients? e = tested (carryLimits (form e)) (in-limits-iff (form e))
+coefficients? e =
+    by (λ h. record { left = h .0; right = h .1 .0; constant = h .1 .1 }, λ h. (h .left, (h .right, h .constant)))
+    (both (within? 1000000 (e .a)) (both (within? 1000000 (e .b)) (within? 2000000000000000 (e .c))))
 
 abbrev pub misnamed? : (n : ℕ) (e : Equation) → Dec (Misnamed n e)
-misnamed? n e = either (atMost? n (e .left)) (either (atMost? n (e .right)) (equal? (e .left) (e .right)))
+misnamed? n e = either (atMost? n (e .left)) (atMost? n (e .right))
 
 abbrev pub shorter? : (area : Option (List ℕ)) (n : ℕ) → Dec (Shorter area n)
 shorter? (some area) n = below? (length area) n

@@ -1,16 +1,14 @@
 -- What is known of a job that no check turns away, and asked for by the code that goes through its rows.
-use mathlib.Core.Logic.{_≢_}
 use mathlib.Core.List.{List}
 use Prim.Native.Nat.{ℕ, _≤_, _<_}
 use lib.ListN.{length}
 use Rattle.jobs.specs.Job.{Equation, Job, jobOf, RowsInside, variable, equation}
 use Rattle.jobs.specs.ReasonTable.{InRange, Coefficients}
 
--- an equation names two different variables below n, and its coefficients are within the limits
+-- an equation names variables below n, and its coefficients are within the limits
 pub record LawfulEquation (n : ℕ) (e : Equation) : Type 0 where
   pub left : e .left < n
   pub right : e .right < n
-  pub different : e .left ≢ e .right
   pub coefficients : Coefficients e
 
 pub record LawfulJob (j : Job) : Type 0 where

@@ -1,10 +1,12 @@
 -- What a job is, when it is turned away, what a plan of it is, and what is demanded of one. Read in this order. To be believed is
--- all of it but the decisions in Decide and Faults, Lawful, Bounds, JobBytes, and Vectors and MapVectors, which are theorems.
+-- all of it but the decisions in Decide and Faults, Lawful, Bounds, JobBytes, and Vectors, MapVectors and UnaryVectors, which are theorems.
 
 -- all that a call is given
 pub mod Call
 -- the bytes of a job as variables and equations
 pub mod Job
+-- which equations join two counts, and which group any other belongs to
+pub mod NormalForm
 -- of two fit-outs of equal worth, which comes first
 pub mod TieBreak
 -- fit-outs, their worth, and the best of them
@@ -44,3 +46,5 @@ pub mod JobBytes
 -- small jobs through all of them, and calls that lend a map
 pub mod Vectors
 pub mod MapVectors
+-- and jobs with equations that join no two counts
+pub mod UnaryVectors

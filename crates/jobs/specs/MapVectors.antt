@@ -11,6 +11,7 @@ use Rattle.lists.proofs.Maps.{same-values}
 use Rattle.bytes.specs.LittleEndian.{unsigned, u16, u32}
 use Rattle.jobs.specs.Call.{Areas, Call, areasOf, callOf}
 use Rattle.jobs.specs.Job.{Job, jobOf, equation}
+use Rattle.jobs.specs.NormalForm.{home}
 use Rattle.jobs.specs.Component.{componentCount, component}
 use Rattle.jobs.specs.Structure.{degree, kind}
 use Rattle.jobs.specs.MapOffsets.{mapEquationsAt}
@@ -29,20 +30,20 @@ pub record MapVector : Type 0 where
   pub after : Areas
 
 -- an answer area of n bytes: 100, 101, 102 and so on; and a map area of m: 50, 51, 52 and so on
-abbrev fresh : ℕ → List ℕ
+abbrev pub fresh : ℕ → List ℕ
 fresh n = table (λ i. 100 + i) n
 
 abbrev freshMap : ℕ → List ℕ
 freshMap m = table (λ i. 50 + i) m
 
-abbrev lending : ℕ → ℕ → Areas
+abbrev pub lending : ℕ → ℕ → Areas
 lending n m = areasOf (fresh n) (some (freshMap m))
 
 -- areas as long as what stands in them afterwards; no fit, where only the map is written; and a refusal
-abbrev mapped : List ℕ → ℤ → List ℕ → List ℕ → MapVector
+abbrev pub mapped : List ℕ → ℤ → List ℕ → List ℕ → MapVector
 mapped job worth sheet shown = record { job = job; lent = lending (length sheet) (length shown); verdict = planned worth; after = areasOf sheet (some shown) }
 
-abbrev unfit : List ℕ → ℕ → ℕ → List ℕ → MapVector
+abbrev pub unfit : List ℕ → ℕ → ℕ → List ℕ → MapVector
 unfit job n l shown = record { job = job; lent = lending n (length shown); verdict = noFit l; after = areasOf (fresh n) (some shown) }
 
 abbrev turned : List ℕ → ℕ → ℕ → ℕ → ℕ → MapVector
@@ -53,10 +54,10 @@ abbrev closed : List ℕ
 closed = header 3 3 60 120 ++ plain 1 ++ plain 1 ++ plain 1 ++ difference 0 1 0 ++ difference 1 2 0 ++ difference 0 2 0
 
 -- number 1, base 0, step 1 of a count in a group, and fits 2, k 1, gain 0 of a group
-abbrev one : ℕ → List ℕ
+abbrev pub one : ℕ → List ℕ
 one group = 1 ∷ 0 ∷ 0 ∷ 0 ∷ 0 ∷ 0 ∷ 0 ∷ 0 ∷ 1 ∷ 0 ∷ 0 ∷ 0 ∷ group ∷ 0 ∷ 0 ∷ 0 ∷ []
 
-abbrev two : List ℕ
+abbrev pub two : List ℕ
 two = 2 ∷ 0 ∷ 0 ∷ 0 ∷ 1 ∷ 0 ∷ 0 ∷ 0 ∷ 0 ∷ 0 ∷ 0 ∷ 0 ∷ 0 ∷ 0 ∷ 0 ∷ 0 ∷ []
 
 abbrev closedSheet : List ℕ
@@ -143,13 +144,13 @@ mapVectors =
     -- a map alone: the answer area is not lent, and not too short
     record { job = falling; lent = record { sheet = none; map = some (freshMap 36) }; verdict = planned (pos 2); after = record { sheet = none; map = some tiedMap } } ∷ []
 
-abbrev called : MapVector → Call
+abbrev pub called : MapVector → Call
 called v = callOf (v .job) (v .lent)
 
-abbrev given : MapVector → Verdict × Areas
+abbrev pub given : MapVector → Verdict × Areas
 given v = (verdict (called v), areasAfter (called v))
 
-abbrev expected : MapVector → Verdict × Areas
+abbrev pub expected : MapVector → Verdict × Areas
 expected v = (v .verdict, v .after)
 
 computed : map given mapVectors ≡ map expected mapVectors
@@ -191,7 +192,7 @@ defined v =
       head = mapMark ++ length (j .variables) ∷ length (j .equations) ∷ 24 ∷ mapEquationsAt j ∷ componentCount j ∷ 0 ∷ [];
       components = table (component j) (length (j .variables));
       degrees = table (degree j) (length (j .variables));
-      equationComponents = table (λ k. component j (equation j k .left)) (length (j .equations));
+      equationComponents = table (λ k. component j (home (equation j k))) (length (j .equations));
       kinds = table (kind j) (length (j .equations));
     }
 

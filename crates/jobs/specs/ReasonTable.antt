@@ -12,13 +12,12 @@ use Rattle.ints.specs.Within.{Within}
 use Rattle.lists.specs.Members.{_∈_}
 use Rattle.lists.specs.Table.{table, upTo}
 use Rattle.runs.specs.Run.{bound}
-use Rattle.runs.specs.Workings.{CarryLimits}
 use Rattle.bytes.specs.LittleEndian.{unsigned, u32}
 use Rattle.jobs.specs.SheetOffsets.{groupRowsAt}
 use Rattle.jobs.specs.MapOffsets.{mapLength}
 use Rattle.jobs.specs.Component.{Numbered}
 use Rattle.jobs.specs.Call.{Call}
-use Rattle.jobs.specs.Job.{Variable, Equation, jobOf, form, variableCount, equationCount, equationRowAt, variable, equation}
+use Rattle.jobs.specs.Job.{Variable, Equation, jobOf, variableCount, equationCount, equationRowAt, variable, equation}
 
 -- ---- the conditions, line by line
 
@@ -40,13 +39,15 @@ pub record InRange (v : Variable) : Type 0 where
   pub high : Within bound (v .high)
   pub weight : Within 1000000 (v .weight)
 
--- the limits of a, b and c are those of the carrying working
-abbrev pub Coefficients : Equation → Type 0
-Coefficients e = CarryLimits (form e)
+-- "a and b are [..] 1,000,000 in size with either sign" at most, 0 included by 02's #102, "c lies within ±2,000,000,000,000,000"
+pub record Coefficients (e : Equation) : Type 0 where
+  pub left : Within 1000000 (e .a)
+  pub right : Within 1000000 (e .b)
+  pub constant : Within 2000000000000000 (e .c)
 
--- "a count not below n, or left equal to right"
+-- "a count not below n"
 abbrev pub Misnamed : ℕ → Equation → Type 0
-Misnamed n e = (n ≤ e .left) ⊎ ((n ≤ e .right) ⊎ (e .left ≡ e .right))
+Misnamed n e = (n ≤ e .left) ⊎ (n ≤ e .right)
 
 -- an area is lent, and has fewer than n bytes
 abbrev pub Shorter : Option (List ℕ) → ℕ → Type 0

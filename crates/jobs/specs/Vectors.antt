@@ -254,9 +254,12 @@ noMultiple = header 2 1 48 68 ++ count (plus 1) (plus 4) (plus 0) ++ plain 9 ++ 
 abbrev tooMany : List ℕ
 tooMany = 1 ∷ 1 ∷ 0 ∷ 0 ∷ 24 ∷ 0 ∷ 0 ∷ 0 ∷ 36 ∷ 12 ∷ 0 ∷ 0 ∷ 36 ∷ 12 ∷ 0 ∷ 0 ∷ 0 ∷ 0 ∷ 0 ∷ 0 ∷ []
 
+abbrev millionAndOne : List ℕ
+millionAndOne = 65 ∷ 66 ∷ 15 ∷ 0 ∷ []
+
 -- 0..3, weight 1,000,001
 abbrev overweight : List ℕ
-overweight = count (plus 0) (plus 3) (65 ∷ 66 ∷ 15 ∷ 0 ∷ [])
+overweight = count (plus 0) (plus 3) millionAndOne
 
 abbrev pub fitted : List Vector
 fitted =
@@ -292,11 +295,11 @@ vectors =
     untouched (70 ∷ 73 ∷ 84 ∷ 50 ∷ tooMany) 8 (refused 2 0) ∷
     untouched (70 ∷ 73 ∷ 84 ∷ 49 ∷ tooMany) 8 (refused 3 0) ∷
     untouched (header 0 0 24 24 ++ 0 ∷ []) 8 (refused 4 0) ∷
-    untouched (header 2 1 48 68 ++ overweight ++ overweight ++ total 1 1 0) 8 (refused 5 0) ∷
-    untouched (header 2 2 48 88 ++ plain 3 ++ overweight ++ total 1 1 0 ++ total 0 1 3) 8 (refused 5 1) ∷
-    -- in the second equation both a count not below n and a = 0
-    untouched (header 2 2 48 88 ++ plain 3 ++ plain 3 ++ total 0 1 3 ++ equationBytes 0 2 (plus 0) (plus 1) 3) 8 (refused 6 1) ∷
-    untouched (header 2 2 48 88 ++ plain 3 ++ plain 3 ++ equationBytes 0 1 (plus 0) (plus 1) 3 ++ total 1 1 3) 8 (refused 7 0) ∷ []
+    untouched (header 2 1 48 68 ++ overweight ++ overweight ++ total 1 2 0) 8 (refused 5 0) ∷
+    untouched (header 2 2 48 88 ++ plain 3 ++ overweight ++ total 2 1 0 ++ total 0 1 3) 8 (refused 5 1) ∷
+    -- in the second equation both a count not below n and a = 1,000,001
+    untouched (header 2 2 48 88 ++ plain 3 ++ plain 3 ++ total 0 1 3 ++ equationBytes 0 2 millionAndOne (plus 1) 3) 8 (refused 6 1) ∷
+    untouched (header 2 2 48 88 ++ plain 3 ++ plain 3 ++ equationBytes 0 1 millionAndOne (plus 1) 3 ++ total 1 2 3) 8 (refused 7 0) ∷ []
 
 -- the call that lends it, and no map
 abbrev pub called : Vector → Call

@@ -15,6 +15,8 @@ use reasons::Reason;
 
 // the rows of variables and of equations
 mod rows;
+// equations in normal form
+mod normal_form;
 // the header
 pub mod header;
 

@@ -66,23 +66,25 @@ impl Equation {
         }
     }
 
-    // Does it name a variable that is not below n, or one variable twice?
+    // Does it name a variable that is not below n?
     pub(crate) fn is_misnamed(self, n: usize) -> bool
         ensures { λ r. ⌜ (r ≡ true) ↔ Misnamed n self ⌝ }
     {
         if n <= self.left {
             return true;
         }
-        if n <= self.right {
-            return true;
-        }
-        self.left == self.right
+        n <= self.right
     }
 
     // Are a, b and c within their limits?
     pub(crate) fn in_limits(self) -> bool
         ensures { λ r. ⌜ (r ≡ true) ↔ Coefficients self ⌝ }
     {
-        self.form().in_limits()
+        if ints::is_within(1000000, self.a) {
+            if ints::is_within(1000000, self.b) {
+                return ints::is_within(2000000000000000, self.c);
+            }
+        }
+        false
     }
 }

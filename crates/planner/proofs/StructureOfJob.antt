@@ -7,10 +7,12 @@ use lib.Dec.{ltb}
 use lib.ListN.{length, getD}
 use Rattle.lists.specs.Keep.{keep}
 use Rattle.jobs.specs.Job.{Job, jobOf, variableCount, equationCount, equation}
+use Rattle.jobs.specs.NormalForm.{home}
 use Rattle.jobs.specs.Lawful.{Lawful}
 use Rattle.jobs.specs.Component.{lowest, leads, component}
 use Rattle.jobs.specs.Structure.{degreeBy, structure}
 use Rattle.jobs.specs.MapLayout.{mapOf}
+use Rattle.jobs.proofs.NormalForm.{home-below}
 use Rattle.jobs.proofs.Components.{lowest-le, lowest-self}
 use Rattle.jobs.proofs.MapFields.{SameStructure, same-map}
 use Rattle.families.specs.ModelFindings.{leadsBy, componentBy}
@@ -38,11 +40,13 @@ module _ (s : List ℕ) (n m : ℕ) (p : n ≡ variableCount s) (q : m ≡ equat
         ∙ sym (is-label i h);
   }
 
-  left-below : (k : ℕ) → k < m → equation j k .left < n
-  left-below k h = omega (arith, lawful .job .each-equation k (omega (arith, h, ties s n m p q)) .left, vars s n m p q)
+  below : (k : ℕ) → k < m → home (equation j k) < n
+  below k h =
+      let e = lawful .job .each-equation k (omega (arith, h, ties s n m p q)) in
+      omega (arith, home-below (equation j k) (length (j .variables)) (e .left) (e .right), vars s n m p q)
 
   pub homes : AllBelow n (t .homes) m
-  homes = record { at = λ k h. omega (arith, f .homes .at k h, left-below k h) }
+  homes = record { at = λ k h. omega (arith, f .homes .at k h, below k h) }
 
   -- the map in the arrays is the definition's
   number : (i : ℕ) → i < n → componentBy (labelIn (t .labels)) n i ≡ component j i
@@ -56,7 +60,7 @@ module _ (s : List ℕ) (n m : ℕ) (p : n ≡ variableCount s) (q : m ≡ equat
     counted = ap length (leads-are s n m p q (t .labels) (f .labels));
     numbers = number;
     degrees = λ i h. f .degrees .at i h ∙ ap (λ m. degreeBy j m i) (ties s n m p q);
-    homes = λ k h. ap (componentBy (labelIn (t .labels)) n) (f .homes .at k h) ∙ number (equation j k .left) (left-below k h);
+    homes = λ k h. ap (componentBy (labelIn (t .labels)) n) (f .homes .at k h) ∙ number (home (equation j k)) (below k h);
     kinds = λ k h. f .kinds .at k h;
   }
 

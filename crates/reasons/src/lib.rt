@@ -19,7 +19,7 @@ pub enum Reason {
     WrongHeader,
     /// The variable's row has a low, a high or a weight out of range.
     VariableRange(u16),
-    /// The equation row names a variable that is not below n, or the same one twice.
+    /// The equation row names a variable that is not below n.
     EquationVariables(u16),
     /// The equation row has an a, a b or a c out of range.
     EquationRange(u16),

@@ -1,17 +1,16 @@
 -- The program's arrays follow the model, equation by equation.
 use mathlib.Core.Path.{_≡_, refl, sym, _∙_, ap, ap₂, subst}
-use mathlib.Core.Logic.{inl}
+use mathlib.Core.Logic.{inl, _≢_}
 use mathlib.Core.Bool.{cond}
 use mathlib.Core.Option.{Option, none, some, Option·none-ne-some}
-use mathlib.Core.List.{List}
+use mathlib.Core.List.{List, [], _∷_}
 use Prim.Native.Nat.{ℕ, suc, _≤_, _<_, min}
-use native.Mathlib.Omega.{arith}
 use native.Mathlib.Decide.{ℕ-discrete}
 use lib.Dec.{ltb}
-use lib.IntN.{ℤ}
 use lib.ListN.{length, getD, set}
 use lib.Seq.{getD-set-same, getD-set-other}
 use borrow.Author.Tests.{eq-eqb, ne-eqb}
+use Rattle.ints.proofs.{ℤ, arith, lin, _&_, facts}
 use Rattle.runs.specs.declared.Equation.{Equation as Form}
 use Rattle.runs.specs.declared.Run.{Run}
 use Rattle.runs.specs.Run.{full}
@@ -20,8 +19,11 @@ use Rattle.runs.specs.Workings.{CarryLimits}
 use Rattle.families.specs.FamilyRun.{FamilyRun}
 use Rattle.jobs.specs.declared.Equation.{Equation}
 use Rattle.jobs.specs.Job.{Job, form, variable, equation}
+use Rattle.jobs.specs.NormalForm.{Binary, normal, normalRow}
+use Rattle.jobs.specs.ReasonTable.{Coefficients}
 use Rattle.jobs.specs.Component.{merged, lowestBy, lowest}
 use Rattle.jobs.specs.Lawful.{LawfulJob, LawfulEquation}
+use Rattle.jobs.proofs.NormalForm.{binary?, normal-binary, normal-unary, normal-left-below, normal-right-below, normal-carries}
 use Rattle.jobs.proofs.Components.{Merged, first, second, other, merged-cases, merged-one, lowestBy-le, lowestBy-self}
 use Rattle.families.specs.Model.{State, labelAt, runAt, Indices as Pair, interval, startState, through, bothSides, cycle, join, commonNumbers, runAfter, kept, change, next, stateAfter, stateAfterAll}
 use Rattle.jobs.specs.Family.{familyRun}
@@ -33,6 +35,7 @@ use Rattle.families.proofs.ModelIsExact.{exact}
 use Rattle.solver.specs.declared.join.Indices.{Indices}
 use Rattle.solver.specs.Labels.{Labelled, Merges, Labels, Apart}
 use Rattle.solver.specs.Spans.{Leads}
+use Rattle.solver.specs.Widths.{Combinable}
 use Rattle.solver.specs.Fields.{runBy, gathered}
 use Rattle.solver.specs.Steps.{indicesBy, Reducible, BothReducible, BothReduce}
 
@@ -68,7 +71,7 @@ module _ (j : Job) (f : LawfulJob j) where
   }
 
 -- ---- the model's step
-next-by : (j : Job) (k : ℕ) → stateAfter j (suc k) ≡ next (equation j k) (stateAfter j k)
+next-by : (j : Job) (k : ℕ) → stateAfter j (suc k) ≡ next (normalRow j k) (stateAfter j k)
 unfolding stateAfter
 next-by j k = refl
 
@@ -136,22 +139,38 @@ module _ (j : Job) (k : ℕ) (labels : List ℕ) (n : ℕ) (a : Labels j k n lab
       let below : getD labels i 0 < n = omega (arith, labels-le .at i h, h) in
       record { below = below; self = a .at (getD labels i 0) below ∙ ap (lowestBy j k) (a .at i h) ∙ lowestBy-self j k i ∙ sym (a .at i h) }
 
-  -- one equation more, whose row is e
-  module _ (e : Equation) (is : e ≡ equation j k) (left : e .left < n) (right : e .right < n) where
+  -- one equation more, whose row in normal form is e
+  module _ (e : Equation) (is : e ≡ normalRow j k) (left : e .left < n) (right : e .right < n) where
     next-at : (i : ℕ) → i < n → lowestBy j (suc k) i ≡ merged (getD labels (e .left) 0) (getD labels (e .right) 0) (getD labels i 0)
     next-at i h = next-label j k i ∙ rw (sym is, a .at (e .left) left, a .at (e .right) right, a .at i h) refl
 
     pub labels-joined : (after : List ℕ) → Merges labels (getD labels (e .left) 0) (getD labels (e .right) 0) n after → Labels j (suc k) n after
     labels-joined after m = record { at = λ i h. m .at i h ∙ sym (next-at i h) }
 
+-- ---- how large a coefficient of a lawful row is in normal form
+normal-combines : {e : Equation} → Coefficients e → Combinable (form (normal e))
+normal-combines {e} f = go (binary? e)
+  where
+    go : Dec (Binary e) → Combinable (form (normal e))
+    go (yes b) = rw (normal-binary e b) (record {
+      left = lin (e .a ∷ []) (f .left) (search facts depth 20) (omega arith);
+      right = lin (e .b ∷ []) (f .right) (search facts depth 20) (omega arith);
+      constant = f .constant;
+    })
+    go (no n) = rw (normal-unary e n) (record {
+      left = lin (e .a ∷ e .b ∷ []) (f .left & f .right) (search facts depth 20) (omega arith);
+      right = record { size = omega arith };
+      constant = f .constant;
+    })
+
 -- ---- one equation more
--- what is known at equation k of a lawful job with n variables, whose row is e
+-- what is known at equation k of a lawful job with n variables, whose row in normal form is e
 pub record At (j : Job) (n k : ℕ) (labels : List ℕ) (firsts steps : List ℤ) (manys : List ℕ) (e : Equation) : Type 0 where
   pub lawful : LawfulJob j
   pub all : length (j .variables) ≡ n
   pub below : k < length (j .equations)
   pub follows : Follows j k labels firsts steps manys
-  pub row : e ≡ equation j k
+  pub row : e ≡ normalRow j k
 
 module _ {j : Job} {n k : ℕ} {labels : List ℕ} {firsts steps : List ℤ} {manys : List ℕ} {e : Equation} (a : At j n k labels firsts steps manys e) where
   abbrev S : State
@@ -184,17 +203,20 @@ module _ {j : Job} {n k : ℕ} {labels : List ℕ} {firsts steps : List ℤ} {ma
   run-is : (i : ℕ) → i < n → seen i ≡ runAt S i
   run-is i h = a .follows .run i (within h)
 
-  equation-lawful : LawfulEquation n e
-  equation-lawful = rw (← a .all, a .row) (a .lawful .each-equation k (a .below))
+  as-written : LawfulEquation n (equation j k)
+  as-written = rw (← a .all) (a .lawful .each-equation k (a .below))
 
   left-below : e .left < n
-  left-below = equation-lawful .left
+  left-below = rw (a .row) (normal-left-below (equation j k) n (as-written .left) (as-written .right))
 
   right-below : e .right < n
-  right-below = equation-lawful .right
+  right-below = rw (a .row) (normal-right-below (equation j k) n (as-written .left) (as-written .right))
 
-  pub limits : CarryLimits (form e)
-  limits = equation-lawful .coefficients
+  pub combinable : Combinable (form e)
+  combinable = rw (a .row) (normal-combines (as-written .coefficients))
+
+  pub limits : getD labels (e .left) 0 ≢ getD labels (e .right) 0 → CarryLimits (form e)
+  limits n = subst (λ e. CarryLimits (form e)) (sym (a .row)) (normal-carries (equation j k) (as-written .coefficients) (λ z. n (ap (λ i. getD labels i 0) (rw (a .row) z))))
 
   family : (i : ℕ) → i < n → FamilyRun (seen i)
   family i h = subst FamilyRun (sym (run-is i h)) (known .invariant .form i (within h))

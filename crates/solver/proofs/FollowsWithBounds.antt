@@ -10,7 +10,8 @@ use Rattle.runs.specs.declared.Run.{Run}
 use Rattle.runs.specs.Run.{empty}
 use Rattle.jobs.specs.declared.Equation.{Equation}
 use Rattle.jobs.specs.declared.Bounds.{Bounds}
-use Rattle.jobs.specs.Job.{Job, jobOf, equation, noEquation}
+use Rattle.jobs.specs.Job.{Job, jobOf, noEquation}
+use Rattle.jobs.specs.NormalForm.{normal, normalRow}
 use Rattle.jobs.specs.Lawful.{LawfulJob}
 use Rattle.jobs.specs.Component.{lowest}
 use Rattle.jobs.specs.Family.{familyRun}
@@ -57,11 +58,11 @@ module _ {s : List ℕ} {n m : ℕ} (z : Sizes s n m) (b : List Bounds) (o : Bou
       at = ends job lawful labels firsts steps manys (subst (λ m. Follows job m labels firsts steps manys) (sym m-is) f)
 
   -- at one of them
-  pub at-row : {k : ℕ} {labels : List ℕ} {firsts steps : List ℤ} {manys : List ℕ} {e : Equation} → k < m → Follows job k labels firsts steps manys → e ≡ equation (jobOf s) k → At job n k labels firsts steps manys e
+  pub at-row : {k : ℕ} {labels : List ℕ} {firsts steps : List ℤ} {manys : List ℕ} {e : Equation} → k < m → Follows job k labels firsts steps manys → e ≡ normalRow (jobOf s) k → At job n k labels firsts steps manys e
   at-row {k} h f r = record {
     lawful = lawful;
     all = n-is;
     below = omega (arith, h, m-is);
     follows = f;
-    row = r ∙ ap (λ es. getD es k noEquation) (sym (same-equations (jobOf s) b));
+    row = r ∙ ap (λ es. normal (getD es k noEquation)) (sym (same-equations (jobOf s) b));
   }

@@ -7,7 +7,8 @@ use Prim.Native.Nat.{ℕ, _<_}
 use lib.Dec.{eqb}
 use lib.ListN.{getD}
 use borrow.Author.Tests.{eqb-true, eqb-false, ne-eqb}
-use Rattle.jobs.specs.Job.{Job, equation}
+use Rattle.jobs.specs.Job.{Job}
+use Rattle.jobs.specs.NormalForm.{normalRow}
 use Rattle.jobs.specs.Component.{Joins}
 use Rattle.jobs.proofs.Components.{joins-iff}
 use Rattle.solver.specs.Labels.{Labels}
@@ -27,15 +28,15 @@ pub other-label : (l r : ℕ) {b : Bool} → b ≡ not (eqb l r) → b ≡ true 
 other-label l r e t = eqb-false l r (apart-told (eqb l r) (sym e ∙ t))
 
 -- on the labels that the earlier equations leave, it tells whether an equation joins
-pub joins-told : (j : Job) (k n : ℕ) (labels : List ℕ) → Labels j k n labels → equation j k .left < n → equation j k .right < n →
-    (b : Bool) → b ≡ not (eqb (getD labels (equation j k .left) 0) (getD labels (equation j k .right) 0)) → (b ≡ true) ↔ Joins j k
+pub joins-told : (j : Job) (k n : ℕ) (labels : List ℕ) → Labels j k n labels → normalRow j k .left < n → normalRow j k .right < n →
+    (b : Bool) → b ≡ not (eqb (getD labels (normalRow j k .left) 0) (getD labels (normalRow j k .right) 0)) → (b ≡ true) ↔ Joins j k
 joins-told j k n labels a p q b e = (
   λ t. joins-iff j k .1 (λ z. eqb-false (getD labels l 0) (getD labels r 0) (apart-told (eqb (getD labels l 0) (getD labels r 0)) (sym e ∙ t)) (a .at l p ∙ z ∙ sym (a .at r q))),
   λ h. e ∙ rw (ne-eqb (getD labels l 0) (getD labels r 0) (λ z. joins-iff j k .0 h (sym (a .at l p) ∙ z ∙ a .at r q))) refl,
 )
   where
     l : ℕ
-    l = equation j k .left
+    l = normalRow j k .left
 
     r : ℕ
-    r = equation j k .right
+    r = normalRow j k .right

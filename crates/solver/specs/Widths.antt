@@ -2,6 +2,7 @@
 use lib.IntN.{pos, _+ℤ_, _-ℤ_, _*ℤ_}
 use Rattle.ints.specs.Within.{Within}
 use Rattle.runs.specs.declared.Run.{Run}
+use Rattle.runs.specs.declared.Equation.{Equation}
 
 -- a run that can be turned: its ends lie within 2³², and so does its step
 pub record Turnable (r : Run) : Type 0 where
@@ -13,3 +14,9 @@ pub record Turnable (r : Run) : Type 0 where
 pub record Crossable (r : Run) : Type 0 where
   pub first : Within 1000000000 (r .first)
   pub step : Within 2000000000 (r .step)
+
+-- an equation in normal form: a coefficient is one of a row's, or the sum of its two
+pub record Combinable (e : Equation) : Type 0 where
+  pub left : Within 2000000 (e .a)
+  pub right : Within 2000000 (e .b)
+  pub constant : Within 2000000000000000 (e .c)

@@ -1,12 +1,13 @@
-//! An equation inside a component, document 01's ring: it is redundant, or leaves one candidate, or leaves none.
+//! An equation inside a component, document 01's ring and document 02's tie that fixes one count: it is redundant, or leaves one
+//! candidate, or leaves none.
 
 ghost use mathlib.Core.Path.{_≡_};
 ghost use mathlib.Core.Logic.{_≢_};
 ghost use lib.IntN.{pos, _+ℤ_, _*ℤ_};
 ghost use Rattle.ints.specs.Within.{Within};
-ghost use Rattle.runs.specs.Workings.{CarryLimits};
 ghost use Rattle.families.specs.FamilyRun.{FamilyRun};
 ghost use Rattle.families.specs.Model.{inRange, candidate, cycle};
+ghost use Rattle.solver.specs.Widths.{Combinable};
 ghost use Rattle.solver.specs.Steps.{remainsBy};
 use runs::Equation;
 use runs::Run;
@@ -18,9 +19,9 @@ pub enum Remains {
 }
 
 // With p = first + step·k, and q likewise, the equation says coefficient·k = value. Both numbers are at most
-// 4,000,000,000,000,000 in size.
+// 10,000,000,000,000,000 in size.
 pub(crate) fn inside(e: Equation, p: Run, q: Run) -> Remains
-    requires { ⌜ CarryLimits e ⌝ }
+    requires { ⌜ Combinable e ⌝ }
     requires { ⌜ FamilyRun p ⌝ }
     requires { ⌜ FamilyRun q ⌝ }
     ensures { λ r. ⌜ remainsBy r ≡ cycle e p q ⌝ }
@@ -38,7 +39,7 @@ pub(crate) fn inside(e: Equation, p: Run, q: Run) -> Remains
 
 // a·x + b·y
 fn combined(e: Equation, x: i64, y: i64) -> i64
-    requires { ⌜ CarryLimits e ⌝ }
+    requires { ⌜ Combinable e ⌝ }
     requires { ⌜ Within 2000000000 x ⌝ }
     requires { ⌜ Within 2000000000 y ⌝ }
     ensures { λ r. ⌜ r ≡ e .a *ℤ x +ℤ e .b *ℤ y ⌝ }

@@ -1,6 +1,7 @@
-//! The equations, one after the other: what each leaves of the families.
+//! The equations, one after the other and in normal form: what each leaves of the families.
 
 ghost use mathlib.Core.Path.{_≡_};
+ghost use mathlib.Core.Logic.{_≢_};
 ghost use Rattle.runs.specs.Workings.{CarryLimits};
 ghost use Rattle.families.specs.FamilyRun.{FamilyRun};
 ghost use Rattle.jobs.specs.Job.{jobOf, variableCount, equationCount};
@@ -8,6 +9,7 @@ ghost use Rattle.jobs.specs.Lawful.{Lawful};
 ghost use Rattle.families.specs.Model.{kept};
 ghost use Rattle.solver.specs.Families.{Families};
 ghost use Rattle.jobs.specs.Bounds.{withBounds, BoundedBy};
+ghost use Rattle.solver.specs.Widths.{Combinable};
 ghost use Rattle.solver.specs.Steps.{keptBy};
 use crate::State;
 use crate::components;
@@ -45,7 +47,7 @@ pub fn families(job: &[u8], bounds: [Bounds; 256], n: usize, m: usize) -> State
     range::start(bounds, &mut firsts, &mut steps, &mut manys, n);
     let mut k: usize = 0;
     while k < m {
-        let e = Equation::read(job, n, k);
+        let e = Equation::read(job, n, k).normal();
         let left = e.left;
         let right = e.right;
         let l = labels[left];
@@ -82,7 +84,8 @@ pub fn families(job: &[u8], bounds: [Bounds; 256], n: usize, m: usize) -> State
 
 // What an equation between variables of the components l and r, which have the runs p and q, leaves of their families.
 fn leaves(e: runs::Equation, l: u16, r: u16, p: Run, q: Run) -> Kept
-    requires { ⌜ CarryLimits e ⌝ }
+    requires { ⌜ Combinable e ⌝ }
+    requires { ⌜ (l ≢ r → CarryLimits e) ⌝ }
     requires { ⌜ FamilyRun p ⌝ }
     requires { ⌜ FamilyRun q ⌝ }
     ensures { λ i. ⌜ keptBy i ≡ kept e l r p q ⌝ }

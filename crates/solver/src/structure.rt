@@ -4,12 +4,12 @@ ghost use mathlib.Core.Path.{_≡_};
 ghost use Rattle.jobs.specs.Job.{jobOf, variableCount, equationCount};
 ghost use Rattle.jobs.specs.Lawful.{Lawful};
 ghost use Rattle.jobs.specs.Structure.{kindBy};
-ghost use Rattle.solver.specs.Structured.{Structured};
+ghost use Rattle.solver.specs.Structured.{Structured, added};
 use crate::components;
 use jobs::Equation;
 
 /// What the pass finds: of each variable its label, the lowest variable of its component, and how many equations name it; of each
-/// equation its left variable, whose component is its own, and its kind.
+/// equation its home, the variable whose component is its own, and its kind.
 pub struct Structure {
     pub labels: [u16; 256],
     pub degrees: [u16; 256],
@@ -35,14 +35,18 @@ pub fn of_job(job: &[u8], n: usize, m: usize) -> Structure
     let mut k: usize = 0;
     while k < m {
         let e = Equation::read(job, n, k);
+        let binary = e.is_binary();
+        let row = e.normal();
+        let home = row.left;
+        let other = row.right;
+        let l = labels[home];
+        let r = labels[other];
+        found.kinds[k] = kind(binary, l, r);
+        found.homes[k] = home as u16;
         let left = e.left;
         let right = e.right;
-        let l = labels[left];
-        let r = labels[right];
-        found.kinds[k] = kind(l, r);
-        found.homes[k] = left as u16;
         found.degrees[left] = found.degrees[left] + 1;
-        found.degrees[right] = found.degrees[right] + 1;
+        found.degrees[right] = found.degrees[right] + added(left, right);
         components::join(&mut labels, &mut lasts, l, r, n);
         k += 1;
     }
@@ -50,9 +54,20 @@ pub fn of_job(job: &[u8], n: usize, m: usize) -> Structure
     found
 }
 
-// The kind of an equation between variables of these components, by document 02: 1 if it joins them, else 2.
-fn kind(l: u16, r: u16) -> u16
-    ensures { λ k. ⌜ k ≡ kindBy l r ⌝ }
+// The kind of an equation between variables of these components, by document 02: 1 if it joins them, else 2; and 3 if it joins no two
+// variables at all.
+fn kind(binary: bool, l: u16, r: u16) -> u16
+    ensures { λ k. ⌜ k ≡ kindBy binary l r ⌝ }
 {
+    if !binary {
+        return 3;
+    }
     if components::joins(l, r) { 1 } else { 2 }
+}
+
+// What an equation adds to its right variable's number, when it has added one to its left one's: one that names a variable twice adds one.
+fn added(left: usize, right: usize) -> u16
+    ensures { λ r. ⌜ r ≡ added left right ⌝ }
+{
+    if left == right { 0 } else { 1 }
 }

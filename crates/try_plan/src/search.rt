@@ -55,8 +55,8 @@ fn label(labels: Labels, i: u8) -> u8 {
     if i < 5 { labels[i as usize] } else { 255 }
 }
 
-// Each variable begins with its own number. Along an equation the lower number is taken over, for so many rounds that it can come from
-// any variable to any other.
+// Each variable begins with its own number. Along an equation that joins two the lower number is taken over, for so many rounds that it
+// can come from any variable to any other.
 fn labels(b: &Buffer) -> Labels {
     let m = byte(b, 6);
     let mut labels: Labels = [0, 1, 2, 3, 4];
@@ -75,6 +75,12 @@ fn joined(b: &Buffer, k: u8, labels: Labels) -> Labels {
     let at = row(b, k);
     let left = byte(b, at);
     let right = byte(b, at + 2);
+    if byte(b, at + 4) == 0 {
+        return labels;
+    }
+    if byte(b, at + 8) == 0 {
+        return labels;
+    }
     let x = label(labels, left);
     let y = label(labels, right);
     let lower = if x < y { x } else { y };
@@ -212,12 +218,25 @@ fn hold(b: &Buffer, p: Part, list: u64) -> bool {
 fn holds(b: &Buffer, k: u8, p: Part, list: u64) -> bool {
     let at = row(b, k);
     let left = byte(b, at);
-    if !has(b, p, left) {
+    let right = byte(b, at + 2);
+    let a = byte(b, at + 4);
+    let c = byte(b, at + 8);
+    if !has(b, p, owner(left, right, a, c)) {
         return true;
     }
-    let x = times(byte(b, at + 4), number(list, left));
-    let y = times(byte(b, at + 8), number(list, byte(b, at + 2)));
+    let x = times(a, number(list, left));
+    let y = times(c, number(list, right));
     std::num::wrapping_add_u64(x, y) == wide(byte(b, at + 12))
+}
+
+// The variable whose group an equation with these coefficients belongs to.
+fn owner(left: u8, right: u8, a: u8, b: u8) -> u8 {
+    if a == 0 {
+        if b != 0 {
+            return right;
+        }
+    }
+    left
 }
 
 // The sum of weight times number over a group.

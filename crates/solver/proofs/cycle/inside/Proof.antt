@@ -15,11 +15,10 @@ use Rattle.ints.proofs.Signed.{held, bits-zero}
 use Rattle.runs.specs.declared.Run.{Run}
 use Rattle.runs.specs.declared.Equation.{Equation}
 use Rattle.runs.specs.Run.{empty}
-use Rattle.runs.specs.Workings.{CarryLimits}
 use Rattle.families.specs.FamilyRun.{FamilyRun}
-use Rattle.runs.proofs.CarryWidths.{fits-c}
 use Rattle.families.specs.Model.{coefficient, residual, candidate, cycle}
 use Rattle.families.proofs.FamilySizes.{first-within, step-within}
+use Rattle.solver.specs.Widths.{Combinable}
 use Rattle.solver.proofs.In64Bits.{fits-64, held-first, held-step, crossable}
 use Rattle.solver.proofs.cycle.inside.Statement.{statement}
 use Rattle.solver.proofs.cycle.inside.Tie as tie
@@ -34,7 +33,7 @@ module _ {r : Run} (f : FamilyRun r) where
 
 -- d and u are the two combinations
 record Known (e : Equation) (P Q : Run) (d u : ℤ) : Type 0 where
-  lim : CarryLimits e
+  lim : Combinable e
   left : FamilyRun P
   right : FamilyRun Q
   d-is : d ≡ e .a *ℤ held (P .step) +ℤ e .b *ℤ held (Q .step)
@@ -43,7 +42,7 @@ record Known (e : Equation) (P Q : Run) (d u : ℤ) : Type 0 where
   u-fits : SFits w64 u
 
 -- the size of such a combination
-sum-within : (e : Equation) (x y z : ℤ) → CarryLimits e → Within 2000000000 x → Within 2000000000 y → z ≡ e .a *ℤ x +ℤ e .b *ℤ y → Within 4000000000000000 z
+sum-within : (e : Equation) (x y z : ℤ) → Combinable e → Within 2000000000 x → Within 2000000000 y → z ≡ e .a *ℤ x +ℤ e .b *ℤ y → Within 8000000000000000 z
 sum-within e x y z lim v w h =
     lin (e .a ∷ e .b ∷ x ∷ y ∷ z ∷ []) (within-mul (lim .left) v & within-mul (lim .right) w & h) (search facts depth 20) (omega arith)
 
@@ -54,11 +53,14 @@ module _ {e : Equation} {P Q : Run} {d u : ℤ} (k : Known e P Q d u) where
   u-there : u ≡ e .a *ℤ P .first +ℤ e .b *ℤ Q .first
   u-there = k .u-is ∙ ap₂ (λ x y. e .a *ℤ x +ℤ e .b *ℤ y) (held-first (crossable (k .left))) (held-first (crossable (k .right)))
 
-  d-within : Within 4000000000000000 d
+  d-within : Within 8000000000000000 d
   d-within = sum-within e (held (P .step)) (held (Q .step)) d (k .lim) (step-asked (k .left)) (step-asked (k .right)) (k .d-is)
 
-  u-within : Within 4000000000000000 u
+  u-within : Within 8000000000000000 u
   u-within = sum-within e (held (P .first)) (held (Q .first)) u (k .lim) (first-asked (k .left)) (first-asked (k .right)) (k .u-is)
+
+  fits-c : SFits w64 (e .c)
+  fits-c = fits-64 2000000000000000 (omega arith) (k .lim .constant)
 
   v-within : Within 10000000000000000 (e .c -ℤ u)
   v-within = lin (e .c ∷ u ∷ []) (k .lim .constant & u-within) (search facts depth 20) (omega arith)
@@ -67,11 +69,11 @@ module _ {e : Equation} {P Q : Run} {d u : ℤ} (k : Known e P Q d u) where
   fits-v = fits-64 10000000000000000 (omega arith) v-within
 
   v-asked : SFits w64 (held (e .c) -ℤ held u)
-  v-asked = rw (toZ-ofZ (fits-c (k .lim)), toZ-ofZ (k .u-fits)) fits-v
+  v-asked = rw (toZ-ofZ fits-c, toZ-ofZ (k .u-fits)) fits-v
 
   -- as a local holds it
   v-held : held (held (e .c) -ℤ held u) ≡ residual e P Q
-  v-held = rw (toZ-ofZ (fits-c (k .lim)), toZ-ofZ (k .u-fits)) (toZ-ofZ fits-v ∙ ap (λ t. e .c -ℤ t) u-there)
+  v-held = rw (toZ-ofZ fits-c, toZ-ofZ (k .u-fits)) (toZ-ofZ fits-v ∙ ap (λ t. e .c -ℤ t) u-there)
 
   -- the tests, on the bits
   abbrev v : ℤ

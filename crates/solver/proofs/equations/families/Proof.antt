@@ -16,6 +16,7 @@ use Rattle.runs.specs.declared.Run.{Run}
 use Rattle.runs.specs.Workings.{CarryLimits}
 use Rattle.jobs.specs.declared.Equation.{Equation}
 use Rattle.jobs.specs.Job.{jobOf, variableCount, equationCount, form}
+use Rattle.jobs.specs.NormalForm.{normal, normalRow}
 use Rattle.jobs.specs.Lawful.{Lawful}
 use Rattle.families.specs.Model.{kept}
 use Rattle.solver.specs.declared.equations.Kept.{Kept}
@@ -25,9 +26,10 @@ use Rattle.jobs.specs.Bounds.{withBounds, BoundedBy}
 use Rattle.solver.specs.VariableArrays.{Begins}
 use Rattle.solver.specs.Fields.{gathered}
 use Rattle.solver.proofs.SpannedLabels.{spans-apart, spans-labelled}
+use Rattle.solver.specs.Widths.{Combinable}
 use Rattle.solver.specs.Steps.{keptBy, Arrays}
-use Rattle.solver.proofs.LawfulRows.{Sizes, n-most, m-most, row-asked, left-below, right-below}
-use Rattle.solver.proofs.CodeFollowsModel.{Follows, At, limits, left-family, right-family, left-leads, right-leads, keeps, follows-same, reducible, follows-reduced}
+use Rattle.solver.proofs.LawfulRows.{Sizes, n-most, m-most, row-asked, coefficients, normal-left, normal-right}
+use Rattle.solver.proofs.CodeFollowsModel.{Follows, At, combinable, limits, left-family, right-family, left-leads, right-leads, keeps, follows-same, reducible, follows-reduced}
 use Rattle.solver.proofs.FollowsWithBounds.{follows-start, follows-end, at-row}
 use Rattle.solver.proofs.equations.families.Statement.{statement}
 use Rattle.solver.proofs.equations.families.Tie as tie
@@ -82,34 +84,39 @@ loop-holds c =
 read-requires : tie.Need-read-requires Inv-loop μ-loop
 read-requires c κs = row-asked (sizes (c .before .before .before .before .before .before .before .before .before .before .before .before .pre)) (c .before .loop .k) (omega arith)
 
--- with a row in hand
-module _ (c : tie.After-read Inv-loop μ-loop) where
+normal-requires : tie.Need-normal-requires Inv-loop μ-loop
+normal-requires c κs =
+    let s = c .before .before .before .before .before .before .before .before .before .before .before .before .before in
+    coefficients (sizes (s .pre)) (c .before .before .loop .k) (omega arith) (c .read .result) (c .read .ensures)
+
+-- with a row in hand, in normal form
+module _ (c : tie.After-normal Inv-loop μ-loop) where
   abbrev s : tie.Start Inv-loop μ-loop
-  s = c .before .before .before .before .before .before .before .before .before .before .before .before .before
+  s = c .before .before .before .before .before .before .before .before .before .before .before .before .before .before
 
   abbrev begun : tie.After-start Inv-loop μ-loop
-  begun = c .before .before .before .before .before .before
+  begun = c .before .before .before .before .before .before .before
 
   abbrev e : Equation
-  e = c .read .result
+  e = c .normal .result
 
   abbrev k : ℕ
-  k = c .before .before .loop .k
+  k = c .before .before .before .loop .k
 
   abbrev labels : List ℕ
-  labels = c .before .before .loop .labels
+  labels = c .before .before .before .loop .labels
 
   abbrev firsts : List ℤ
-  firsts = c .before .before .loop .firsts
+  firsts = c .before .before .before .loop .firsts
 
   abbrev steps : List ℤ
-  steps = c .before .before .loop .steps
+  steps = c .before .before .before .loop .steps
 
   abbrev manys : List ℕ
-  manys = c .before .before .loop .manys
+  manys = c .before .before .before .loop .manys
 
-  sound : Sound labels (c .before .before .loop .lasts) firsts steps manys (s .args .n)
-  sound = c .before .before .loop .inv .1 .0
+  sound : Sound labels (c .before .before .before .loop .lasts) firsts steps manys (s .args .n)
+  sound = c .before .before .before .loop .inv .1 .0
 
   k-below : k < s .args .m
   k-below = omega arith
@@ -117,16 +124,19 @@ module _ (c : tie.After-read Inv-loop μ-loop) where
   n-256 : s .args .n ≤ 256
   n-256 = n-most (sizes (s .pre))
 
+  row-is : c .normal .result ≡ normalRow (jobOf (s .args .job .now)) k
+  row-is = c .normal .ensures ∙ ap normal (c .before .read .ensures)
+
   left-small : e .left < 256
-  left-small = omega (arith, left-below (sizes (s .pre)) k k-below e (c .read .ensures), n-256)
+  left-small = omega (arith, normal-left (sizes (s .pre)) k k-below e row-is, n-256)
 
   right-small : e .right < 256
-  right-small = omega (arith, right-below (sizes (s .pre)) k k-below e (c .read .ensures), n-256)
+  right-small = omega (arith, normal-right (sizes (s .pre)) k k-below e row-is, n-256)
 
   -- for any bounds with which the runs begin
   at-any : (b : List Bounds) → BoundedBy b (s .args .n) → Begins b (s .args .n) (begun .start .last .1 .0) (begun .start .last .1 .1 .0) (begun .start .last .1 .1 .1 .0) →
       At (withBounds (jobOf (s .args .job .now)) b) (s .args .n) k labels firsts steps manys e
-  at-any b o h = at-row (sizes (s .pre)) b o k-below (c .before .before .loop .inv .1 .1 .follows b o h) (c .read .ensures)
+  at-any b o h = at-row (sizes (s .pre)) b o k-below (c .before .before .before .loop .inv .1 .1 .follows b o h) row-is
 
   -- and for those that came in
   at : At (withBounds (jobOf (s .args .job .now)) (s .args .bounds)) (s .args .n) k labels firsts steps manys e
@@ -168,37 +178,37 @@ mul-y c = record { fits = omega (arith, right-256 c) }
 array-read-y : tie.Need-array-read-y Inv-loop μ-loop
 array-read-y c = right-256 c
 
-mul-t32 : tie.Need-mul-t32 Inv-loop μ-loop
-mul-t32 c = record { fits = omega (arith, left-small c) }
+mul-t33 : tie.Need-mul-t33 Inv-loop μ-loop
+mul-t33 c = record { fits = omega (arith, left-small c) }
 
-array-copy-out-t46 : tie.Need-array-copy-out-t46 Inv-loop μ-loop
-array-copy-out-t46 c = left-small c
+array-copy-out-t47 : tie.Need-array-copy-out-t47 Inv-loop μ-loop
+array-copy-out-t47 c = left-small c
 
-mul-t38 : tie.Need-mul-t38 Inv-loop μ-loop
-mul-t38 c = record { fits = omega (arith, left-small (c .before)) }
+mul-t39 : tie.Need-mul-t39 Inv-loop μ-loop
+mul-t39 c = record { fits = omega (arith, left-small (c .before)) }
 
-array-copy-out-t49 : tie.Need-array-copy-out-t49 Inv-loop μ-loop
-array-copy-out-t49 c = left-small (c .before)
+array-copy-out-t50 : tie.Need-array-copy-out-t50 Inv-loop μ-loop
+array-copy-out-t50 c = left-small (c .before)
 
-mul-t32-2 : tie.Need-mul-t32-2 Inv-loop μ-loop
-mul-t32-2 c = record { fits = omega (arith, right-small (c .before .before)) }
+mul-t33-2 : tie.Need-mul-t33-2 Inv-loop μ-loop
+mul-t33-2 c = record { fits = omega (arith, right-small (c .before .before)) }
 
-array-copy-out-t49-2 : tie.Need-array-copy-out-t49-2 Inv-loop μ-loop
-array-copy-out-t49-2 c = right-small (c .before .before)
+array-copy-out-t50-2 : tie.Need-array-copy-out-t50-2 Inv-loop μ-loop
+array-copy-out-t50-2 c = right-small (c .before .before)
 
-mul-t38-2 : tie.Need-mul-t38-2 Inv-loop μ-loop
-mul-t38-2 c = record { fits = omega (arith, right-small (c .before .before .before)) }
+mul-t39-2 : tie.Need-mul-t39-2 Inv-loop μ-loop
+mul-t39-2 c = record { fits = omega (arith, right-small (c .before .before .before)) }
 
-array-copy-out-t46-2 : tie.Need-array-copy-out-t46-2 Inv-loop μ-loop
-array-copy-out-t46-2 c = right-small (c .before .before .before)
+array-copy-out-t47-2 : tie.Need-array-copy-out-t47-2 Inv-loop μ-loop
+array-copy-out-t47-2 c = right-small (c .before .before .before)
 
 -- a run made of numbers that locals hold
 held-run : (a b : ℤ) (many : ℕ) → SFits w64 a → SFits w64 b → _≡_ {A = Run} record { first = held a; step = held b; many = many } record { first = a; step = b; many = many }
 held-run a b many f t = ap₂ (λ a b. record { first = a; step = b; many = many }) (toZ-ofZ f) (toZ-ofZ t)
 
 -- with the two runs
-module _ (c : tie.After-t462 Inv-loop μ-loop) where
-  abbrev row : tie.After-read Inv-loop μ-loop
+module _ (c : tie.After-t472 Inv-loop μ-loop) where
+  abbrev row : tie.After-normal Inv-loop μ-loop
   row = c .before .before .before .before
 
   abbrev at-left : ℕ
@@ -208,25 +218,41 @@ module _ (c : tie.After-t462 Inv-loop μ-loop) where
   at-right = e row .right
 
   left-held : _≡_ {A = Run} record { first = held (getD (firsts row) at-left (pos 0)); step = held (getD (steps row) at-left (pos 0)); many = getD (manys row) (getD (labels row) at-left 0) 0 } (gathered (labels row) (firsts row) (steps row) (manys row) at-left)
-  left-held = held-run (getD (firsts row) at-left (pos 0)) (getD (steps row) at-left (pos 0)) _ record { sfits = c .before .before .before .t46 .given } record { sfits = c .before .before .t49 .given }
+  left-held = held-run (getD (firsts row) at-left (pos 0)) (getD (steps row) at-left (pos 0)) _ record { sfits = c .before .before .before .t47 .given } record { sfits = c .before .before .t50 .given }
 
   right-held : _≡_ {A = Run} record { first = held (getD (firsts row) at-right (pos 0)); step = held (getD (steps row) at-right (pos 0)); many = getD (manys row) (getD (labels row) at-right 0) 0 } (gathered (labels row) (firsts row) (steps row) (manys row) at-right)
-  right-held = held-run (getD (firsts row) at-right (pos 0)) (getD (steps row) at-right (pos 0)) _ record { sfits = c .before .t492 .given } record { sfits = c .t462 .given }
+  right-held = held-run (getD (firsts row) at-right (pos 0)) (getD (steps row) at-right (pos 0)) _ record { sfits = c .before .t502 .given } record { sfits = c .t472 .given }
 
 leaves-requires : tie.Need-leaves-requires Inv-loop μ-loop
 leaves-requires c κs =
     let a = at (row (c .before)) in
-    (subst CarryLimits (sym (c .form .ensures)) (limits a), (subst FamilyRun (sym (left-held (c .before))) (left-family a), subst FamilyRun (sym (right-held (c .before))) (right-family a)))
+    (subst Combinable (sym (c .form .ensures)) (combinable a), ((λ n. subst CarryLimits (sym (c .form .ensures)) (limits a n)), (subst FamilyRun (sym (left-held (c .before))) (left-family a), subst FamilyRun (sym (right-held (c .before))) (right-family a))))
 
 -- what the equation leaves
 module _ (c : tie.After-leaves Inv-loop μ-loop) where
-  abbrev runs-read : tie.After-t462 Inv-loop μ-loop
+  abbrev runs-read : tie.After-t472 Inv-loop μ-loop
   runs-read = c .before .before
 
   kept-is : (x : Kept) → c .leaves .result ≡ x → keptBy x ≡ keeps (at (row runs-read))
   kept-is x h =
       ap keptBy (sym h) ∙ c .leaves .ensures
       ∙ (λ t. kept (c .before .form .ensures t) (getD (labels (row runs-read)) (at-left runs-read) 0) (getD (labels (row runs-read)) (at-right runs-read) 0) (left-held runs-read t) (right-held runs-read t))
+
+-- the arrays that are lent, with what was kept in hand
+arrays-at : (t : tie.After-known-told Inv-loop μ-loop) → let r = row (runs-read (t .before .before .before)) in Arrays (labels r) (r .before .before .before .loop .lasts) (firsts r) (steps r) (s r .args .n)
+arrays-at t = sound (row (runs-read (t .before .before .before))) .arrays
+
+slice-aggregate-both : tie.Need-slice-aggregate-both Inv-loop μ-loop
+slice-aggregate-both c = sym (arrays-at (c .before) .labels-256)
+
+slice-aggregate-both-2 : tie.Need-slice-aggregate-both-2 Inv-loop μ-loop
+slice-aggregate-both-2 c = sym (arrays-at (c .before .before) .lasts-256)
+
+slice-aggregate-both-3 : tie.Need-slice-aggregate-both-3 Inv-loop μ-loop
+slice-aggregate-both-3 c = sym (arrays-at (c .before .before .before) .firsts-256)
+
+slice-aggregate-both-4 : tie.Need-slice-aggregate-both-4 Inv-loop μ-loop
+slice-aggregate-both-4 c = sym (arrays-at (c .before .before .before .before) .steps-256)
 
 both-requires : tie.Need-both-requires Inv-loop μ-loop
 both-requires c κs =
@@ -271,7 +297,7 @@ loop-less : tie.Need-loop-less Inv-loop μ-loop
 loop-less c = omega (arith, k-below (row (runs-read (c .before))))
 
 -- the arrays are what was made of them
-onward : (c : tie.After-read Inv-loop μ-loop) {labels labels′ lasts lasts′ manys manys′ : List ℕ} {firsts firsts′ steps steps′ : List ℤ} →
+onward : (c : tie.After-normal Inv-loop μ-loop) {labels labels′ lasts lasts′ manys manys′ : List ℕ} {firsts firsts′ steps steps′ : List ℤ} →
     labels ≡ labels′ → lasts ≡ lasts′ → firsts ≡ firsts′ → steps ≡ steps′ → manys ≡ manys′ → Sound labels′ lasts′ firsts′ steps′ manys′ (s c .args .n) →
     ((b : List Bounds) → BoundedBy b (s c .args .n) → Begins b (s c .args .n) (begun c .start .last .1 .0) (begun c .start .last .1 .1 .0) (begun c .start .last .1 .1 .1 .0) →
     Follows (withBounds (jobOf (s c .args .job .now)) b) (suc (k c)) labels′ firsts′ steps′ manys′) →
@@ -318,9 +344,9 @@ returns c =
 pub families-spec : {M : Type 1} → statement M
 families-spec =
     tie.close
-    (tie.spec Inv-loop μ-loop (search needs) (search needs) (λ c. search needs) (λ c. search needs) (λ c. search needs) start-requires loop-holds read-requires
-    mul-l array-read-l mul-r array-read-r cast-x mul-x array-read-x cast-y mul-y array-read-y mul-t32 array-copy-out-t46 mul-t38 array-copy-out-t49
-    mul-t32-2 array-copy-out-t49-2 mul-t38-2 array-copy-out-t46-2 (search needs) leaves-requires (search needs) (search needs)
-    (λ c. search needs) (λ c. search needs) (λ c. search needs) (λ c. search needs) both-requires slice-aggregate-join slice-aggregate-join-2 join-requires
+    (tie.spec Inv-loop μ-loop (search needs) (search needs) (λ c. search needs) (λ c. search needs) (λ c. search needs) start-requires loop-holds read-requires normal-requires
+    mul-l array-read-l mul-r array-read-r cast-x mul-x array-read-x cast-y mul-y array-read-y mul-t33 array-copy-out-t47 mul-t39 array-copy-out-t50
+    mul-t33-2 array-copy-out-t50-2 mul-t39-2 array-copy-out-t47-2 (search needs) leaves-requires (search needs) (search needs)
+    slice-aggregate-both slice-aggregate-both-2 slice-aggregate-both-3 slice-aggregate-both-4 both-requires slice-aggregate-join slice-aggregate-join-2 join-requires
     (λ c κs. search needs) cast-manys mul-manys array-write-manys add-k loop-less loop-again
     (λ c. search needs) (λ c. search needs) (λ c. search needs) (λ c. search needs) gather-requires returns)

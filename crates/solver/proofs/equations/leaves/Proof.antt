@@ -4,6 +4,7 @@ use mathlib.Core.Bool.{true, false, not}
 use mathlib.Core.Option.{Option, some}
 use Prim.Native.Nat.{ℕ}
 use borrow.Author.Needs.{needs}
+use borrow.Author.Tests.{eqb-false}
 use lib.Dec.{eqb, ltb}
 use Rattle.runs.specs.declared.Run.{Run}
 use Rattle.runs.specs.declared.Equation.{Equation}
@@ -31,11 +32,17 @@ module _ (e : Equation) (l r : ℕ) (P Q : Run) where
   unfolding kept
   together t o h = rw (together-told (eqb l r) t) (ap bothSides h)
 
+between-requires : tie.Need-between-requires
+between-requires c κs =
+    let s = c .before .before in
+    (s .pre .1 .0 (eqb-false (s .args .l) (s .args .r) (apart-told _ (sym (c .before .joins .ensures) ∙ c .if1 .taken))), (s .pre .1 .1 .0, s .pre .1 .1 .1))
+
 returns : tie.Need-returns
 returns c =
     let s = c .before .before .before in
-    apart (s .args .e) (s .args .l) (s .args .r) (s .args .p) (s .args .q) (s .pre .0) (s .pre .1 .0) (s .pre .1 .1)
-    (sym (c .before .before .joins .ensures) ∙ c .before .if1 .taken) (indicesBy (c .between .result)) (c .between .ensures)
+    let t = sym (c .before .before .joins .ensures) ∙ c .before .if1 .taken in
+    apart (s .args .e) (s .args .l) (s .args .r) (s .args .p) (s .args .q) (s .pre .1 .0 (eqb-false (s .args .l) (s .args .r) (apart-told _ t))) (s .pre .1 .1 .0) (s .pre .1 .1 .1)
+    t (indicesBy (c .between .result)) (c .between .ensures)
 
 -- after the call, which gives x
 module _ (c : tie.After-inside) where
@@ -56,5 +63,5 @@ returns-3 c = inside-is (c .before .before .before) (At (c .before .remains .giv
 pub leaves-spec : {M : Type 1} → statement M
 leaves-spec =
     tie.close
-    (tie.spec (search needs) (λ c κs. search needs) returns (λ c κs. search needs) (search needs) (search needs)
+    (tie.spec (search needs) between-requires returns (λ c κs. search needs) (search needs) (search needs)
     returns-2 returns-3)
