@@ -1,5 +1,6 @@
 //! Runs another planner on many pseudo-random jobs, and compares what it prints with what this one prints.
 
+use std::collections::BTreeMap;
 use std::fs;
 use std::io::{self, Read, Write};
 use std::path::Path;
@@ -9,6 +10,7 @@ use std::sync::Mutex;
 use std::thread;
 
 use crate::damaged;
+use crate::fixes::{self, CASES};
 use crate::job::{self, Refusal};
 use crate::made::{self, Size};
 use crate::plan::{plan, Outcome, Sheet};
@@ -67,11 +69,18 @@ struct Tally {
     chosen_large: u64,
     /// planned, with equally good fit-outs in a group with a falling count; in one with a weight; in two or more groups
     equals: [u64; 3],
+    /// by the name of the case
+    fixes: BTreeMap<&'static str, u64>,
+    /// refused for 6 or 7, at a row behind one that joins nothing
+    behind_fix: u64,
     different: u64,
 }
 
 impl Tally {
     fn add(&mut self, bytes: &[u8], outcome: &Outcome) {
+        if let Ok(job) = job::read(bytes) {
+            fixes::cases(&job, outcome).into_iter().for_each(|case| *self.fixes.entry(case).or_default() += 1);
+        }
         match outcome {
             Outcome::Planned(sheet) => {
                 self.planned += 1;
@@ -107,6 +116,14 @@ impl Tally {
             };
             self.rows[reason - 5][place] += 1;
         }
+        if let (6.., Ok(job)) = (reason, job::read_rows(bytes)) {
+            self.behind_fix += u64::from(job.equations[..refusal.row].iter().any(|tie| !tie.joins()));
+        }
+    }
+
+    /// Each case with the share that is asked of it, and how often it was there.
+    fn fixes(&self) -> impl Iterator<Item = (&'static str, u64, u64)> + '_ {
+        CASES.1.iter().map(|&(case, of)| (case, of, *self.fixes.get(case).unwrap_or(&0)))
     }
 
     /// Whether every kind of job is there often enough for the comparison to mean something. A short run may lack some.
@@ -120,11 +137,12 @@ impl Tally {
             Kind::Mixed => {
                 let choices = share(self.chosen, 4) && share(self.chosen_large, 40);
                 let equals = self.equals.iter().all(|&times| share(times, 25));
-                share(self.planned, 3) && share(self.no_fit, 10) && choices && equals && reasons(200)
+                let fixes = self.fixes().all(|(_, of, times)| share(times, of));
+                share(self.planned, 3) && share(self.no_fit, 10) && choices && equals && fixes && reasons(200)
             }
             Kind::Spoiled => {
                 let rows = self.rows.iter().flatten().all(|&times| share(times, 100));
-                share(self.planned + self.no_fit, 20) && reasons(30) && rows
+                share(self.planned + self.no_fit, 20) && reasons(30) && rows && share(self.behind_fix, 50)
             }
         }
     }
@@ -238,8 +256,13 @@ fn report(tally: &Tally, kind: Kind, seed: u64, jobs: u64) -> bool {
                 "second: planned with equally good fit-outs in a group with a falling count: {falling}; \
                  with a weight: {weighed}; in two or more groups: {groups}"
             );
+            let fixes: Vec<String> = tally.fixes().map(|(case, _, times)| format!("{case} {times}")).collect();
+            println!("second: {}: {}", CASES.0, fixes.join(", "));
         }
-        Kind::Spoiled => println!("second: of 5 to 7 at the first row, at the last and between: {:?}", tally.rows),
+        Kind::Spoiled => {
+            println!("second: of 5 to 7 at the first row, at the last and between: {:?}", tally.rows);
+            println!("second: of 6 and 7 behind a tie that joins nothing: {}", tally.behind_fix);
+        }
     }
     let verdict = match tally.different {
         0 if varied => "all equal".to_string(),

@@ -37,14 +37,17 @@ fn spoil_row(random: &mut Random, job: &mut Job) {
     } else if !job.equations.is_empty() {
         let at = random.index(job.equations.len());
         let equation = &mut job.equations[at];
+        let absent = random.pick(&[n, n + 1, 256, 65_535]);
+        // the last is what two coefficients of one count may come to, and neither may be
         let wrong = past(random, MOST_COEFFICIENT);
+        let wrong = random.pick(&[wrong, wrong, 2 * MOST_COEFFICIENT]);
         match random.index(8) {
-            0 => equation.left = random.pick(&[n, n + 1, 256, 65_535]),
-            1 => equation.right = random.pick(&[n, n + 1, 256, 65_535]),
-            2 => equation.left = equation.right,
-            3 => equation.right = equation.left,
-            4 => equation.a = random.pick(&[0, wrong]),
-            5 => equation.b = random.pick(&[0, wrong]),
+            0 => equation.left = absent,
+            1 => equation.right = absent,
+            2 => (equation.left, equation.right) = (absent, absent),
+            3 => equation.a = wrong,
+            4 => equation.b = wrong,
+            5 => (equation.right, equation.a, equation.b) = (equation.left, wrong, -wrong),
             6 => equation.c = past(random, MOST_SIDE),
             _ => equation.c = random.pick(&[i64::MIN, i64::MAX, i64::MIN + 1]),
         }

@@ -1,4 +1,4 @@
-//! The job: its bytes, and the table of the reasons for which it is refused (document 01, "The job" and "The sheet").
+//! The job: its bytes, and the table of the reasons for which it is refused (document 01, "The job" and "The sheet"; 02, #102).
 
 const MARK: &[u8; 4] = b"FIT1";
 const HEADER: usize = 24;
@@ -48,18 +48,39 @@ impl Count {
 }
 
 impl Equation {
-    fn names_two_of(&self, n: usize) -> bool {
-        self.left < n && self.right < n && self.left != self.right
+    /// "An equation joins counts only if they differ and neither coefficient is 0."
+    pub fn joins(&self) -> bool {
+        self.left != self.right && self.a != 0 && self.b != 0
+    }
+
+    /// The count to whose group it belongs: one with a nonzero coefficient, or the left one when there is none. Where it joins, the
+    /// other is in that group too.
+    pub fn home(&self) -> usize {
+        if self.a == 0 && self.b != 0 {
+            self.right
+        } else {
+            self.left
+        }
+    }
+
+    fn names_counts_below(&self, n: usize) -> bool {
+        self.left < n && self.right < n
     }
 
     fn in_range(&self) -> bool {
-        let coefficient = |x| x != 0 && within(x, MOST_COEFFICIENT);
-        coefficient(self.a) && coefficient(self.b) && within(self.c, MOST_SIDE)
+        within(self.a, MOST_COEFFICIENT) && within(self.b, MOST_COEFFICIENT) && within(self.c, MOST_SIDE)
     }
 }
 
 /// The job that the bytes are, or the first line of the table that turns them away.
 pub fn read(bytes: &[u8]) -> Result<Job, Refusal> {
+    let job = read_rows(bytes)?;
+    check_rows(&job.counts, &job.equations)?;
+    Ok(job)
+}
+
+/// Reasons 1 to 4; else the rows, whatever they say.
+pub fn read_rows(bytes: &[u8]) -> Result<Job, Refusal> {
     let refused = |reason| Err(Refusal { reason, row: 0 });
     if bytes.len() < HEADER {
         return refused(1);
@@ -76,10 +97,10 @@ pub fn read(bytes: &[u8]) -> Result<Job, Refusal> {
     if fields != [HEADER, start, end, 0] || bytes.len() != end {
         return refused(4);
     }
-    let counts: Vec<Count> = bytes[HEADER..start].chunks(COUNT_ROW).map(read_count).collect();
-    let equations: Vec<Equation> = bytes[start..].chunks(EQUATION_ROW).map(read_equation).collect();
-    check_rows(&counts, &equations)?;
-    Ok(Job { counts, equations })
+    Ok(Job {
+        counts: bytes[HEADER..start].chunks(COUNT_ROW).map(read_count).collect(),
+        equations: bytes[start..].chunks(EQUATION_ROW).map(read_equation).collect(),
+    })
 }
 
 /// How many count and equation rows the header says that there are.
@@ -95,7 +116,7 @@ fn check_rows(counts: &[Count], equations: &[Equation]) -> Result<(), Refusal> {
         }
     }
     for (row, equation) in equations.iter().enumerate() {
-        if !equation.names_two_of(counts.len()) {
+        if !equation.names_counts_below(counts.len()) {
             return Err(Refusal { reason: 6, row });
         }
         if !equation.in_range() {
@@ -240,9 +261,7 @@ mod tests {
     fn equation_rows() {
         assert_eq!(after(|j| j.equations[1].left = 3), (6, 1));
         assert_eq!(after(|j| j.equations[1].right = 3), (6, 1));
-        assert_eq!(after(|j| j.equations[1].left = 2), (6, 1));
-        assert_eq!(after(|j| j.equations[1].a = 0), (7, 1));
-        assert_eq!(after(|j| j.equations[1].b = 0), (7, 1));
+        assert_eq!(after(|j| (j.equations[1].left, j.equations[1].right) = (3, 3)), (6, 1));
         for sign in [1, -1] {
             assert_eq!(after(|j| j.equations[0].a = sign * MOST_COEFFICIENT), (0, 0));
             assert_eq!(after(|j| j.equations[0].b = sign * MOST_COEFFICIENT), (0, 0));
@@ -253,11 +272,45 @@ mod tests {
         }
     }
 
+    /// The same count on both sides, and zeros. A coefficient is in range by itself: the sum may be twice as large, and does not make
+    /// up for one that is out of range.
+    #[test]
+    fn zeros_and_the_same_count() {
+        assert_eq!(after(|j| j.equations[1].left = 2), (0, 0));
+        assert_eq!(after(|j| j.equations[1].a = 0), (0, 0));
+        assert_eq!(after(|j| j.equations[1].b = 0), (0, 0));
+        assert_eq!(after(|j| (j.equations[1].a, j.equations[1].b) = (0, 0)), (0, 0));
+        assert_eq!(after(|j| (j.equations[1].a, j.equations[1].right) = (0, 3)), (6, 1));
+        assert_eq!(after(|j| (j.equations[1].a, j.equations[1].c) = (0, MOST_SIDE + 1)), (7, 1));
+        let twice = |a, b| after(|j| j.equations[1] = Equation { left: 2, right: 2, a, b, c: 0 });
+        for most in [MOST_COEFFICIENT, -MOST_COEFFICIENT] {
+            assert_eq!([twice(most, most), twice(most, -most), twice(0, most)], [(0, 0); 3]);
+            let past = most + most.signum();
+            assert_eq!([twice(past, -past), twice(past, 0), twice(0, past), twice(2 * most, 0)], [(7, 1); 4]);
+        }
+    }
+
+    #[test]
+    fn joins_and_homes() {
+        let told = |left, right, a, b| {
+            let equation = Equation { left, right, a, b, c: 5 };
+            (equation.joins(), equation.home())
+        };
+        assert_eq!(told(1, 2, 3, -3), (true, 1));
+        assert_eq!([told(1, 2, 3, 0), told(1, 2, 0, 0)], [(false, 1); 2]);
+        assert_eq!([told(1, 2, 0, 3), told(2, 1, 3, 0), told(2, 1, 0, 0)], [(false, 2); 3]);
+        assert_eq!([told(2, 2, 3, 4), told(2, 2, 3, -3), told(2, 2, 0, 3), told(2, 2, 0, 0)], [(false, 2); 4]);
+    }
+
     #[test]
     fn order_of_the_table() {
         // 7 at row 0 before 6 at row 1; in one row 6 before 7; a count row before any equation row
-        assert_eq!(after(|j| (j.equations[0].a, j.equations[1].left) = (0, 9)), (7, 0));
-        assert_eq!(after(|j| (j.equations[1].a, j.equations[1].left) = (0, 9)), (6, 1));
-        assert_eq!(after(|j| (j.equations[0].a, j.counts[2].low) = (0, -2_000_000_000)), (5, 2));
+        let past = MOST_COEFFICIENT + 1;
+        assert_eq!(after(|j| (j.equations[0].a, j.equations[1].left) = (past, 9)), (7, 0));
+        assert_eq!(after(|j| (j.equations[1].a, j.equations[1].left) = (past, 9)), (6, 1));
+        assert_eq!(after(|j| (j.equations[0].a, j.counts[2].low) = (past, -2_000_000_000)), (5, 2));
+        // a lawful row 0 that joins nothing does not come before them
+        assert_eq!(after(|j| (j.equations[0].a, j.equations[1].left) = (0, 9)), (6, 1));
+        assert_eq!(after(|j| (j.equations[0].left, j.equations[1].a) = (1, past)), (7, 1));
     }
 }

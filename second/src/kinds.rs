@@ -1,6 +1,7 @@
 //! The kinds of planning calls that the sweep is to have, and of which kinds a call is.
 
 use crate::call::sheet_length;
+use crate::fixes;
 use crate::job::{self, Job};
 use crate::lent::Call;
 use crate::map;
@@ -8,7 +9,7 @@ use crate::plan::Outcome;
 use crate::tally::{Part, Tally};
 
 /// With each, in how many calls there is to be one at least. Lengths are told of lawful jobs only, rows of maps that are written.
-pub const KINDS: [Part; 6] = [
+pub const KINDS: [Part; 7] = [
     ("outcomes", &[("planned", 4), ("no fit", 15), ("refused", 4), ("no fit with a map", 30), ("planned with a map", 8)]),
     (
         "refused",
@@ -57,9 +58,15 @@ pub const KINDS: [Part; 6] = [
     (
         "maps with",
         &[
-            ("kind 1 alone", 30),
-            ("both kinds", 12),
+            ("kind 1 alone", 50),
+            ("kind 3 alone", 50),
+            ("kinds 1 and 2", 12),
+            ("all three kinds", 20),
             ("kind 1 after kind 2", 20),
+            ("kind 1 after kind 3", 20),
+            ("kind 2 after kind 3", 30),
+            ("kind 3 after kind 1", 20),
+            ("kind 3 after kind 2", 30),
             ("a group not numbered as its lowest count", 20),
             ("n = 0", 100),
             ("m = 0", 20),
@@ -67,8 +74,10 @@ pub const KINDS: [Part; 6] = [
             ("256 counts", 300),
             ("1,024 equations", 300),
             ("a full frame", 500),
+            ("a full frame with kind 3", 1_000),
         ],
     ),
+    fixes::CASES,
 ];
 
 /// Count a call, by what it is given and what it gives: the outcome, and the map area afterwards.
@@ -87,9 +96,11 @@ pub fn note(tally: &mut Tally, call: &Call, outcome: &Outcome, map: &[u8]) {
     tally.add_if(call.map.is_none() && !call.map_is_lent(), "null map not lent");
     tally.add_if(call.lent > 1, "noise in lent");
     tally.add_if(call.gaps != [0; 3], "a gap");
-    if let Ok(job) = job::read(call.job()) {
-        note_lengths(tally, call, &job, outcome);
-        if call.map_is_lent() && !matches!(outcome, Outcome::Refused(_)) {
+    let Ok(job) = job::read(call.job()) else { return };
+    note_lengths(tally, call, &job, outcome);
+    if !matches!(outcome, Outcome::Refused(_)) {
+        fixes::cases(&job, outcome).into_iter().for_each(|case| tally.add(case));
+        if call.map_is_lent() {
             tally.add_if(matches!(outcome, Outcome::NoFit(_)), "no fit with a map");
             tally.add_if(matches!(outcome, Outcome::Planned(_)), "planned with a map");
             note_map(tally, &job, map);
@@ -134,9 +145,20 @@ fn note_map(tally: &mut Tally, job: &Job, map: &[u8]) {
         .collect();
     let (counts, equations) = rows.split_at(n);
     let kinds: Vec<u16> = equations.iter().map(|row| row.1).collect();
-    tally.add_if(kinds.contains(&1) && !kinds.contains(&2), "kind 1 alone");
-    tally.add_if(kinds.contains(&1) && kinds.contains(&2), "both kinds");
-    tally.add_if(kinds.windows(2).any(|two| two == [2, 1]), "kind 1 after kind 2");
+    let [one, two, three] = [1, 2, 3].map(|kind| kinds.contains(&kind));
+    tally.add_if(one && !two && !three, "kind 1 alone");
+    tally.add_if(three && !one, "kind 3 alone");
+    tally.add_if(one && two, "kinds 1 and 2");
+    tally.add_if(one && two && three, "all three kinds");
+    for (rows, name) in [
+        ([2, 1], "kind 1 after kind 2"),
+        ([3, 1], "kind 1 after kind 3"),
+        ([3, 2], "kind 2 after kind 3"),
+        ([1, 3], "kind 3 after kind 1"),
+        ([2, 3], "kind 3 after kind 2"),
+    ] {
+        tally.add_if(kinds.windows(2).any(|two| two == rows), name);
+    }
     let renumbered = |row: &(u16, u16)| counts.iter().position(|other| other.0 == row.0) != Some(row.0.into());
     tally.add_if(counts.iter().any(renumbered), "a group not numbered as its lowest count");
     tally.add_if(n == 0, "n = 0");
@@ -144,5 +166,7 @@ fn note_map(tally: &mut Tally, job: &Job, map: &[u8]) {
     tally.add_if(m == 0 && n > 0, "m = 0 and counts");
     tally.add_if(n == job::MOST_COUNTS, "256 counts");
     tally.add_if(m == job::MOST_EQUATIONS, "1,024 equations");
-    tally.add_if(n == job::MOST_COUNTS && m == job::MOST_EQUATIONS, "a full frame");
+    let full = n == job::MOST_COUNTS && m == job::MOST_EQUATIONS;
+    tally.add_if(full, "a full frame");
+    tally.add_if(full && three, "a full frame with kind 3");
 }

@@ -20,6 +20,15 @@ impl Size {
         }
     }
 
+    /// How many ties are to join nothing: half of the jobs have some.
+    fn fixes(self, random: &mut Random) -> usize {
+        match self {
+            Size::Small => random.pick(&[0, 0, 0, 1, 2, 4]),
+            Size::Middle => random.pick(&[0, 0, 0, 1, 4, 20]),
+            Size::Large => random.pick(&[0, 0, 0, 1, 10, 100]),
+        }
+    }
+
     /// How many ties are to close a ring.
     fn rings(self, random: &mut Random) -> usize {
         match self {
@@ -35,23 +44,26 @@ pub fn hidden(random: &mut Random, size: Size) -> Job {
     hidden_with_fit(random, size).0
 }
 
-/// The same with the hidden fit-out. One in four has a flaw, which mostly leaves it without a fit; then none is given.
+/// The same with the hidden fit-out. One in four has a flaw or more, and so mostly no fit; then none is given.
 pub fn hidden_with_fit(random: &mut Random, size: Size) -> (Job, Option<Vec<i64>>) {
     let n = size.counts(random);
     let mut draft = Draft::new(n);
     for members in parts(random, n) {
         draft.add_group(random, members);
     }
+    for _ in 0..size.fixes(random) {
+        draft.add_fix(random);
+    }
     for _ in 0..size.rings(random) {
         draft.add_ring(random);
     }
-    let flawed = random.chance(25);
-    if flawed {
+    let flaws = if random.chance(25) { random.pick(&[1, 1, 2, 3]) } else { 0 };
+    for _ in 0..flaws {
         draft.add_flaw(random);
     }
     draft.set_weights(random);
     random.shuffle(&mut draft.job.equations);
-    (draft.job, (!flawed).then_some(draft.point))
+    (draft.job, (flaws == 0).then_some(draft.point))
 }
 
 /// A job of up to n counts in which nothing is arranged.
@@ -59,10 +71,11 @@ pub fn wild(random: &mut Random, n: usize) -> Job {
     let n = random.index(n + 1);
     let bound = random.pick(&[2, 6, 6, 1_000, MOST_NUMBER]);
     let most = random.pick(&[1, 3, 5, 1_000, MOST_COEFFICIENT]);
-    let ties = if n < 2 { 0 } else { random.index(n + 2) };
+    let loose = random.pick(&[0, 0, 15, 50]);
+    let ties = if n == 0 || n == 1 && loose == 0 { 0 } else { random.index(n + 2) };
     Job {
         counts: (0..n).map(|_| wild_count(random, bound)).collect(),
-        equations: (0..ties).map(|_| wild_tie(random, n, most, bound)).collect(),
+        equations: (0..ties).map(|_| wild_tie(random, n, most, bound, loose)).collect(),
     }
 }
 
@@ -73,11 +86,32 @@ fn wild_count(random: &mut Random, bound: i64) -> Count {
     Count { low, high, weight: random.between(-5, 5) }
 }
 
-fn wild_tie(random: &mut Random, n: usize, most: i64, bound: i64) -> Equation {
-    let (left, right) = two_of(random, n);
+/// By a chance of `loose` in a hundred it joins nothing.
+fn wild_tie(random: &mut Random, n: usize, most: i64, bound: i64, loose: i64) -> Equation {
+    let (left, right) = if n == 1 { (0, 0) } else { two_of(random, n) };
     let (a, b) = (random.sign() * random.sized(most), random.sign() * random.sized(most));
+    let mut tie = Equation { left, right, a, b, c: 0 };
+    if random.chance(loose) {
+        loosen(random, &mut tie);
+    }
     let (x, y) = (random.between(-bound, bound), random.between(-bound, bound));
-    Equation { left, right, a, b, c: a * x + b * y }
+    let y = if tie.left == tie.right { x } else { y };
+    tie.c = tie.a * x + tie.b * y;
+    if !tie.joins() && random.chance(15) {
+        tie.c = (tie.c + random.sign()).clamp(-MOST_SIDE, MOST_SIDE);
+    }
+    tie
+}
+
+/// Let it join nothing: by a coefficient 0, by two, or by the same count on both sides.
+pub fn loosen(random: &mut Random, tie: &mut Equation) {
+    match random.index(6) {
+        0 => tie.a = 0,
+        1 => tie.b = 0,
+        2 => tie.right = tie.left,
+        3 | 4 => (tie.a, tie.b) = (0, 0),
+        _ => (tie.right, tie.b) = (tie.left, -tie.a),
+    }
 }
 
 /// Two different numbers below n.
@@ -111,6 +145,8 @@ struct Part {
     aligned: bool,
     /// whether a ring may leave one candidate only
     crossed: bool,
+    /// whether a tie may fix one of its counts; otherwise those that join nothing say nothing either
+    fixed: bool,
 }
 
 /// A job in the making, with a hidden fit-out and a direction in which it can move.
@@ -138,7 +174,8 @@ impl Draft {
             self.point[i] = random.sign() * (random.sized(reach) - 1);
             self.direction[i] = smooth(random, steepest);
         }
-        self.parts.push(Part { aligned, crossed: random.chance(25), ties: Vec::new(), members: members.clone() });
+        let (crossed, fixed) = (random.chance(25), random.chance(30));
+        self.parts.push(Part { aligned, crossed, fixed, ties: Vec::new(), members: members.clone() });
         for at in 1..members.len() {
             let from = members[[at - 1, 0, random.index(at)][shape]];
             let (a, b) = if aligned {
@@ -174,6 +211,35 @@ impl Draft {
         let turned = random.chance(50);
         let (left, right, a, b) = if turned { (q, p, b, a) } else { (p, q, a, b) };
         self.parts[part].ties.push(self.job.equations.len());
+        self.job.equations.push(Equation { left, right, a, b, c });
+    }
+
+    /// A tie that joins nothing, through the hidden fit-out.
+    fn add_fix(&mut self, random: &mut Random) {
+        if !self.parts.is_empty() {
+            let part = &self.parts[random.index(self.parts.len())];
+            let p = random.pick(&part.members);
+            let coefficient = if part.fixed && random.chance(60) { sum_of_two(random) } else { 0 };
+            self.add_lone(random, p, coefficient, 0);
+        }
+    }
+
+    /// Add x·p = c, with c from the hidden fit-out and moved by some amount; p is named twice, or with any count that gets the
+    /// coefficient 0.
+    fn add_lone(&mut self, random: &mut Random, p: usize, x: i64, moved: i64) {
+        let c = x * self.point[p] + moved;
+        if c.abs() > MOST_SIDE || self.job.equations.len() >= MOST_EQUATIONS {
+            return;
+        }
+        let q = random.index(self.point.len());
+        let twice = q == p || x.abs() > MOST_COEFFICIENT || random.chance(40);
+        let (left, right, (a, b)) = if twice {
+            (p, p, split(random, x))
+        } else if x != 0 && random.chance(50) {
+            (q, p, (0, x))
+        } else {
+            (p, q, (x, 0))
+        };
         self.job.equations.push(Equation { left, right, a, b, c });
     }
 
@@ -230,6 +296,9 @@ impl Draft {
 
     /// Spoil a group, as by one of document 01's wrong plans.
     fn add_flaw(&mut self, random: &mut Random) {
+        if random.chance(35) {
+            return self.add_false_fix(random);
+        }
         let Some(part) = self.tied_part(random) else { return self.empty_bounds(random) };
         let (p, q) = self.two_members(random, part);
         let sides = (random.sign() * random.sized(MOST_COEFFICIENT), random.sign() * random.sized(9));
@@ -252,6 +321,18 @@ impl Draft {
             }
             _ => self.stepped_over(random, part),
         }
+    }
+
+    /// A tie that joins nothing, and is not through the hidden fit-out: 0 = c, mostly half a card, or a whole number some way off.
+    fn add_false_fix(&mut self, random: &mut Random) {
+        if self.point.is_empty() {
+            return;
+        }
+        let p = random.index(self.point.len());
+        let (x, away) = (sum_of_two(random), random.sign() * random.sized(1_000));
+        let any = random.sign() * random.sized(MOST_SIDE);
+        let (x, moved) = random.pick(&[(0, any), (0, any), (x, away.signum()), (x, x * away)]);
+        self.add_lone(random, p, x, moved);
     }
 
     fn empty_bounds(&mut self, random: &mut Random) {
@@ -307,6 +388,20 @@ impl Draft {
             }
         }
     }
+}
+
+/// What two coefficients of one count can come to, and not 0.
+fn sum_of_two(random: &mut Random) -> i64 {
+    let any = random.sized(2 * MOST_COEFFICIENT);
+    random.sign() * random.pick(&[1, 3, any, any, any, 2 * MOST_COEFFICIENT])
+}
+
+/// Two coefficients of that sum, at the ends of their range or anywhere in it; one may be 0.
+fn split(random: &mut Random, sum: i64) -> (i64, i64) {
+    let (least, most) = ((sum - MOST_COEFFICIENT).max(-MOST_COEFFICIENT), (sum + MOST_COEFFICIENT).min(MOST_COEFFICIENT));
+    let (near, any) = (random.between(-5, 5).clamp(least, most), random.between(least, most));
+    let a = random.pick(&[least, most, near, any, 0.clamp(least, most)]);
+    (a, sum - a)
 }
 
 /// A number from 1 to most; many have small factors only.

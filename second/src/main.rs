@@ -14,6 +14,7 @@ mod calls;
 mod compare;
 mod damaged;
 mod fence;
+mod fixes;
 mod job;
 mod kinds;
 mod lent;
@@ -31,6 +32,8 @@ mod stop;
 mod tally;
 #[cfg(test)]
 mod tests;
+#[cfg(test)]
+mod traps;
 mod workings;
 
 use std::io::{self, Read, Write};

@@ -1,5 +1,5 @@
-//! The map of a job (document 02, #101), by searching paths: whether equations join two counts is seen by going from the one to
-//! the other, and no sets are kept.
+//! The map of a job (document 02, #101 and #102), by searching paths: whether equations join two counts is seen by going from the one
+//! to the other, and no sets are kept.
 
 use crate::job::{Equation, Job};
 
@@ -19,7 +19,7 @@ pub fn bytes(job: &Job) -> Vec<u8> {
         push_row(&mut bytes, group, named);
     }
     for (equation, kind) in job.equations.iter().zip(kinds(job)) {
-        push_row(&mut bytes, groups[equation.left], kind);
+        push_row(&mut bytes, groups[equation.home()], kind);
     }
     bytes
 }
@@ -57,18 +57,22 @@ pub fn groups(job: &Job) -> Vec<usize> {
     groups.into_iter().map(|group| group.expect("every count is reached, at the latest from itself")).collect()
 }
 
-/// 1 for an equation between counts that no path of earlier ones joins, else 2.
+/// 3 for an equation that joins nothing; else 1 where no path of earlier ones joins its counts, and 2 where one does.
 fn kinds(job: &Job) -> Vec<usize> {
     let mut paths = Paths::none(job);
-    let kind = |equation| {
+    let kind = |equation: &Equation| {
         let joined = paths.lead(equation);
         paths.add(equation);
-        1 + usize::from(joined)
+        if equation.joins() {
+            1 + usize::from(joined)
+        } else {
+            3
+        }
     };
     job.equations.iter().map(kind).collect()
 }
 
-/// The counts that some equations put next to each count.
+/// The counts that joining equations put next to each count.
 struct Paths(Vec<Vec<usize>>);
 
 impl Paths {
@@ -77,8 +81,10 @@ impl Paths {
     }
 
     fn add(&mut self, equation: &Equation) {
-        self.0[equation.left].push(equation.right);
-        self.0[equation.right].push(equation.left);
+        if equation.joins() {
+            self.0[equation.left].push(equation.right);
+            self.0[equation.right].push(equation.left);
+        }
     }
 
     /// Whether the two counts of an equation are joined already.
@@ -171,7 +177,24 @@ mod tests {
         }
     }
 
-    /// The groups are those of the sheet; every row of kind 1 leaves one group less; every row names two counts.
+    /// A row of kind 3 joins nothing, so that one between the same counts after it is of kind 1. It adds one to the count that it names
+    /// twice, and to one whose coefficient is 0.
+    #[test]
+    fn zeros_and_the_same_count() {
+        let mut job = job(3, &[(0, 1), (0, 1), (1, 1), (1, 0), (2, 2), (0, 2)]);
+        job.equations[0].a = 0;
+        job.equations[2].b = 1;
+        (job.equations[5].a, job.equations[5].b, job.equations[5].c) = (0, 0, 1);
+        let counts = [[0, 0, 4, 0], [0, 0, 4, 0], [1, 0, 2, 0]];
+        let ties = [[0, 0, 3, 0], [0, 0, 1, 0], [0, 0, 3, 0], [0, 0, 2, 0], [1, 0, 3, 0], [0, 0, 3, 0]];
+        expect(&job, [3, 6, 36, 2], &[&counts[..], &ties[..]].concat());
+        // of two groups, that of the count whose coefficient is not 0
+        job.equations[5].b = 1;
+        let ties = [&ties[..5], &[[1, 0, 3, 0]]].concat();
+        expect(&job, [3, 6, 36, 2], &[&counts[..], &ties[..]].concat());
+    }
+
+    /// The groups are those of the sheet; every row of kind 1 leaves one group less; every row names two counts, or one twice.
     #[test]
     fn random_jobs() {
         let mut planned = 0;
@@ -183,7 +206,8 @@ mod tests {
             assert_eq!(kinds(&job).into_iter().filter(|&kind| kind == 1).count(), n - g);
             let named =
                 bytes(&job)[24..24 + 4 * n].chunks(4).map(|row| usize::from(row[2]) + 256 * usize::from(row[3])).sum();
-            assert_eq!(2 * job.equations.len(), named);
+            let counts = |equation: &Equation| if equation.left == equation.right { 1 } else { 2 };
+            assert_eq!(job.equations.iter().map(counts).sum::<usize>(), named);
             if let Outcome::Planned(sheet) = plan_job(&job) {
                 assert_eq!(sheet.counts.iter().map(|row| row.group).collect::<Vec<usize>>(), groups(&job));
                 planned += 1;
@@ -202,5 +226,14 @@ mod tests {
         assert_eq!(map[24..32], [0, 0, 0, 4, 0, 0, 1, 0]); // count 0 is named by 1,024
         assert_eq!(map[24 + 4 * 255..24 + 4 * 256], [0, 0, 2, 3]); // count 255 by 770
         assert!(map[24 + 4 * 256..].chunks(4).enumerate().all(|(row, bytes)| bytes == [0, 0, 1 + u8::from(row >= 255), 0]));
+    }
+
+    /// The same with 1,024 rows that name count 255 twice.
+    #[test]
+    fn full_frame_of_kind_3() {
+        let map = bytes(&job(256, &[(255, 255); 1_024]));
+        assert_eq!(map[16..18], [0, 1]); // 256 groups
+        assert_eq!(map[24 + 4 * 254..24 + 4 * 256], [254, 0, 0, 0, 255, 0, 0, 4]);
+        assert!(map[24 + 4 * 256..].chunks(4).all(|bytes| bytes == [255, 0, 3, 0]));
     }
 }

@@ -66,11 +66,11 @@ fn enter(sheet: &mut Sheet, job: &Job, family: &Family) {
 }
 
 /// A group: its lowest count, a tree of ties from there to every other count, and the ties that are left, each of which
-/// closes a ring.
+/// closes a ring or joins nothing.
 struct Group<'a> {
     lowest: usize,
     tree: Vec<Branch<'a>>,
-    rings: Vec<&'a Equation>,
+    rest: Vec<&'a Equation>,
 }
 
 /// A tie from a count that was reached before to one that was not.
@@ -84,8 +84,12 @@ struct Branch<'a> {
 fn groups(job: &Job) -> Vec<Group<'_>> {
     let mut ties_at = vec![Vec::new(); job.counts.len()];
     for (row, tie) in job.equations.iter().enumerate() {
-        ties_at[tie.left].push(row);
-        ties_at[tie.right].push(row);
+        if tie.joins() {
+            ties_at[tie.left].push(row);
+            ties_at[tie.right].push(row);
+        } else {
+            ties_at[tie.home()].push(row);
+        }
     }
     let mut reached = vec![false; job.counts.len()];
     let mut groups = Vec::new();
@@ -99,7 +103,7 @@ fn groups(job: &Job) -> Vec<Group<'_>> {
 
 /// The group of a count, by breadth-first search.
 fn group_of<'a>(lowest: usize, job: &'a Job, ties_at: &[Vec<usize>], reached: &mut [bool]) -> Group<'a> {
-    let mut group = Group { lowest, tree: Vec::new(), rings: Vec::new() };
+    let mut group = Group { lowest, tree: Vec::new(), rest: Vec::new() };
     let mut used = vec![false; job.equations.len()];
     let mut queue = vec![lowest];
     reached[lowest] = true;
@@ -114,8 +118,8 @@ fn group_of<'a>(lowest: usize, job: &'a Job, ties_at: &[Vec<usize>], reached: &m
             used[row] = true;
             let tie = &job.equations[row];
             let to = tie.left + tie.right - from;
-            if reached[to] {
-                group.rings.push(tie);
+            if reached[to] || !tie.joins() {
+                group.rest.push(tie);
             } else {
                 reached[to] = true;
                 queue.push(to);
@@ -162,8 +166,8 @@ impl Family {
 fn family(job: &Job, group: &Group) -> Option<Family> {
     let points = tree_solutions(group)?;
     let mut range = Range::of_bounds(job, &points)?;
-    for tie in &group.rings {
-        range = range.closed_by(tie, &points)?;
+    for tie in &group.rest {
+        range = range.held_to(tie, &points)?;
     }
     let fits = (&range.last - &range.first).to_i64() + 1;
     let member = |p: &Point| Member {
@@ -269,12 +273,17 @@ impl Range {
         Range::new(from.div_ceil(&point.step), to.div_floor(&point.step).0)
     }
 
-    /// The t of the range at which the tie holds: (a·step + b·step')·t = c - a·start - b·start'.
-    fn closed_by(self, tie: &Equation, points: &[Point]) -> Option<Range> {
-        let (p, q) = (&points[find(points, tie.left)], &points[find(points, tie.right)]);
-        let (a, b) = (Big::from(tie.a), Big::from(tie.b));
-        let factor = &(&a * &p.step) + &(&b * &q.step);
-        let side = &(&Big::from(tie.c) - &(&a * &p.start)) - &(&b * &q.start);
+    /// The t of the range at which the tie holds: (a·step + b·step')·t = c - a·start - b·start'. A count with coefficient 0 may be one
+    /// of another group, and is left out.
+    fn held_to(self, tie: &Equation, points: &[Point]) -> Option<Range> {
+        let (mut factor, mut side) = (Big::from(0), Big::from(tie.c));
+        for (coefficient, count) in [(tie.a, tie.left), (tie.b, tie.right)] {
+            if coefficient != 0 {
+                let (x, point) = (Big::from(coefficient), &points[find(points, count)]);
+                factor = &factor + &(&x * &point.step);
+                side = &side - &(&x * &point.start);
+            }
+        }
         if factor.is_zero() {
             return side.is_zero().then_some(self);
         }

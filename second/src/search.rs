@@ -49,13 +49,23 @@ fn labels(job: &Job) -> Vec<usize> {
     loop {
         let before = labels.clone();
         for tie in &job.equations {
-            let lower = labels[tie.left].min(labels[tie.right]);
-            (labels[tie.left], labels[tie.right]) = (lower, lower);
+            if let [(p, _), (q, _)] = terms(tie)[..] {
+                let lower = labels[p].min(labels[q]);
+                (labels[p], labels[q]) = (lower, lower);
+            }
         }
         if labels == before {
             return labels;
         }
     }
+}
+
+/// The counts of a tie with their coefficients, those that are 0 left out. With the same count the coefficient is the sum of the two.
+fn terms(tie: &Equation) -> Vec<(usize, i64)> {
+    let mut terms =
+        if tie.left == tie.right { vec![(tie.left, tie.a + tie.b)] } else { vec![(tie.left, tie.a), (tie.right, tie.b)] };
+    terms.retain(|&(_, coefficient)| coefficient != 0);
+    terms
 }
 
 type Members<'a> = Vec<(usize, &'a Count)>;
@@ -90,13 +100,13 @@ fn longer(list: &[i64], count: &Count) -> Vec<Vec<i64>> {
     (count.low..=count.high).map(|x| [list, &[x]].concat()).collect()
 }
 
-/// A tie of another group counts as kept.
+/// A tie of another group counts as kept. One without a term is of the left count's group.
 fn holds(tie: &Equation, members: &Members, list: &[i64]) -> bool {
     let number = |i| members.iter().position(|&(count, _)| count == i).map(|at| list[at]);
-    match (number(tie.left), number(tie.right)) {
-        (Some(p), Some(q)) => tie.a * p + tie.b * q == tie.c,
-        _ => true,
-    }
+    let terms = terms(tie);
+    let group = terms.first().map_or(tie.left, |&(count, _)| count);
+    let value = |&(count, coefficient)| coefficient * number(count).expect("the counts of two terms are joined");
+    number(group).is_none() || terms.iter().map(value).sum::<i64>() == tie.c
 }
 
 /// Base, step, fits, the chosen place and gain, read off the list of all fit-outs. The best is that of greatest worth and, among equals,

@@ -1,19 +1,22 @@
 //! Pseudo-random jobs that break rules at chosen places of the table.
 
-use crate::job::{self, Job, MOST_COEFFICIENT, MOST_NUMBER, MOST_SIDE, MOST_WEIGHT};
+use crate::job::{self, Equation, Job, MOST_COEFFICIENT, MOST_NUMBER, MOST_SIDE, MOST_WEIGHT};
 use crate::made::{self, Size};
 use crate::random::Random;
 
 /// The places of the table, by their reasons. The later ones are more frequent, since an earlier one hides them.
 const PLACES: [u8; 17] = [1, 2, 3, 4, 4, 5, 5, 5, 6, 6, 6, 6, 7, 7, 7, 7, 7];
 
-/// A job with up to four faults, at any places of the table, so that their order counts; some numbers are at their limits, which is
-/// lawful, and sometimes a bit somewhere is turned round.
+/// A job with up to four faults, at any places of the table, so that their order counts; some numbers are at their limits and some ties
+/// join nothing, which is lawful, and sometimes a bit somewhere is turned round.
 pub fn spoiled(random: &mut Random) -> Vec<u8> {
     let size = random.pick(&[Size::Small, Size::Small, Size::Middle, Size::Middle, Size::Large]);
     let mut job = made::hidden(random, size);
     for _ in 0..random.between(0, 2) {
         set_to_limit(random, &mut job);
+    }
+    if random.chance(40) {
+        some_row(random, &mut job.equations).into_iter().for_each(|tie| made::loosen(random, tie));
     }
     let places: Vec<u8> = (0..random.pick(&[0, 1, 1, 2, 2, 3, 4])).map(|_| random.pick(&PLACES)).collect();
     let mut bytes = broken(random, job, &places);
@@ -69,8 +72,11 @@ fn set_to_limit(random: &mut Random, job: &mut Job) {
 /// Break a rule of the rows: 5, 6 or 7.
 fn spoil_row(random: &mut Random, job: &mut Job, place: u8) {
     let n = job.counts.len();
+    let absent = random.pick(&[n, n + 1, 256, 65_535]);
     let (number, weight, coefficient) =
         (past(random, MOST_NUMBER), past(random, MOST_WEIGHT), past(random, MOST_COEFFICIENT));
+    // the last is what two coefficients of one count may come to, and neither may be
+    let coefficient = random.pick(&[coefficient, coefficient, 2 * MOST_COEFFICIENT]);
     let side = past(random, MOST_SIDE);
     let side = random.pick(&[side, i64::MIN, i64::MIN + 1, i64::MAX]);
     if place == 5 {
@@ -82,13 +88,15 @@ fn spoil_row(random: &mut Random, job: &mut Job, place: u8) {
             }
         }
     } else if let Some(equation) = some_row(random, &mut job.equations) {
+        // of two counts a wrong one is the higher
+        let (higher, twice) = (equation.left.max(equation.right), random.chance(50));
         match (place, random.index(4)) {
-            (6, 0) => equation.left = random.pick(&[n, n + 1, 256, 65_535]),
-            (6, 1) => equation.right = random.pick(&[n, n + 1, 256, 65_535]),
-            (6, 2) => equation.left = equation.right,
-            (6, _) => equation.right = equation.left,
-            (7, 0) => equation.a = random.pick(&[0, coefficient]),
-            (7, 1) => equation.b = random.pick(&[0, coefficient]),
+            (6, 0) => equation.left = absent,
+            (6, 1) => equation.right = absent,
+            (6, _) => (equation.left, equation.right) = (absent, absent),
+            (7, 0) => equation.a = coefficient,
+            (7, 1) => equation.b = coefficient,
+            (7, 2) if twice => *equation = Equation { left: higher, right: higher, a: coefficient, b: -coefficient, c: 0 },
             (7, _) => equation.c = side,
             _ => (),
         }

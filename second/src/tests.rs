@@ -1,10 +1,13 @@
 //! The planner on document 01's jobs, on small jobs against a search, and on large jobs against their own ties and bounds.
 
+use std::collections::BTreeMap;
 use std::fs;
 use std::path::Path;
 
-use crate::job::Job;
+use crate::fixes::{self, CASES};
+use crate::job::{self, Job};
 use crate::made::{self, Size};
+use crate::map;
 use crate::plan::{plan, plan_job, Outcome, Sheet};
 use crate::print::print;
 use crate::random::Random;
@@ -13,26 +16,68 @@ use crate::search::{best, search};
 #[test]
 fn examples() {
     let folder = Path::new(env!("CARGO_MANIFEST_DIR")).join("../examples");
-    let mut tried = 0;
+    let (mut tried, mut maps) = (0, 0);
     for entry in fs::read_dir(folder).expect("the folder of examples") {
         let path = entry.expect("a file").path();
         if path.extension().is_some_and(|extension| extension == "job") {
+            let bytes = fs::read(&path).expect("a job");
             let wanted = fs::read_to_string(path.with_extension("out")).expect("the print of an example");
-            assert_eq!(print(&plan(&fs::read(&path).expect("a job"))), wanted, "{}", path.display());
+            assert_eq!(print(&plan(&bytes)), wanted, "{}", path.display());
             tried += 1;
+            if let Ok(wanted) = fs::read_to_string(path.with_extension("map")) {
+                assert_eq!(map_lines(&bytes), wanted, "the map of {}", path.display());
+                maps += 1;
+            }
         }
     }
-    assert!(tried >= 25, "only {tried} examples were found");
+    assert!(tried >= 25 && maps >= 5, "only {tried} examples were found, with {maps} maps");
+}
+
+/// The lines that the print program prints for the map of a job; none where it is refused.
+fn map_lines(bytes: &[u8]) -> String {
+    let Ok(job) = job::read(bytes) else { return String::new() };
+    let map = map::bytes(&job);
+    let number = |at| u16::from_le_bytes([map[at], map[at + 1]]);
+    let (n, m) = (job.counts.len(), job.equations.len());
+    let mut text = format!("map counts {} equations {} groups {}\n", number(4), number(6), number(16));
+    for (i, at) in (0..n).map(|i| (i, 24 + 4 * i)) {
+        text += &format!("map count {i} group {} equations {}\n", number(at), number(at + 2));
+    }
+    for (k, at) in (0..m).map(|k| (k, 24 + 4 * (n + k))) {
+        let kind = ["joins", "ring", "fixes"][usize::from(number(at + 2)) - 1];
+        text += &format!("map equation {k} group {} kind {kind}\n", number(at));
+    }
+    text
+}
+
+/// How often each case of the ties that join nothing was there.
+struct Cases(BTreeMap<&'static str, u32>);
+
+impl Cases {
+    fn new() -> Cases {
+        Cases(CASES.1.iter().map(|&(case, _)| (case, 0)).collect())
+    }
+
+    fn add(&mut self, job: &Job, outcome: &Outcome) {
+        let found = fixes::cases(job, outcome);
+        found.into_iter().for_each(|case| *self.0.get_mut(case).expect("a case of the table") += 1);
+    }
+
+    fn require(&self, least: u32) {
+        assert!(self.0.values().all(|&times| times >= least), "{:?}", self.0);
+    }
 }
 
 #[test]
 fn small_jobs_as_by_search() {
     let (mut planned, mut chosen, mut no_fit) = (0, 0, 0);
+    let mut cases = Cases::new();
     for number in 0..20_000 {
         let random = &mut Random::new(3, number);
         let job = if random.chance(50) { made::hidden(random, Size::Small) } else { made::wild(random, 5) };
         let Some(wanted) = search(&job, 3_000) else { continue };
         assert_eq!(plan_job(&job), wanted, "job {number}: {job:?}");
+        cases.add(&job, &wanted);
         match wanted {
             Outcome::Planned(sheet) => {
                 planned += 1;
@@ -45,17 +90,21 @@ fn small_jobs_as_by_search() {
         planned > 4_000 && chosen > 2_000 && no_fit > 2_000,
         "{planned} planned, {chosen} with a choice, {no_fit} no fit"
     );
+    cases.require(30);
 }
 
 /// Of the whole job every other fit-out has less worth, or equal worth and a lower number where the two first differ.
 #[test]
 fn small_jobs_are_best_of_all_lists() {
     let (mut planned, mut among_equals) = (0, 0);
+    let mut cases = Cases::new();
     for number in 0..20_000 {
         let random = &mut Random::new(5, number);
         let job = if random.chance(50) { made::hidden(random, Size::Small) } else { made::wild(random, 5) };
         let Some(wanted) = best(&job, 3_000) else { continue };
-        let given = match plan_job(&job) {
+        let outcome = plan_job(&job);
+        cases.add(&job, &outcome);
+        let given = match outcome {
             Outcome::Planned(sheet) => Some(sheet.counts.iter().map(|row| row.number).collect::<Vec<i64>>()),
             _ => None,
         };
@@ -64,6 +113,7 @@ fn small_jobs_are_best_of_all_lists() {
         assert_eq!(given, wanted.map(|best| best.numbers), "job {number}: {job:?}");
     }
     assert!(planned > 3_000 && among_equals > 500, "{planned} planned, {among_equals} among equals");
+    cases.require(30);
 }
 
 /// The numbers of the fit-out at the k-th place of each group, or past the ends.
@@ -117,11 +167,14 @@ fn check_hidden(job: &Job, sheet: &Sheet, hidden: &[i64]) {
 #[test]
 fn large_jobs_keep_their_ties() {
     let mut planned = 0;
+    let mut cases = Cases::new();
     for number in 0..1_500 {
         let random = &mut Random::new(4, number);
         let size = random.pick(&[Size::Middle, Size::Large]);
         let (job, hidden) = made::hidden_with_fit(random, size);
-        match (plan_job(&job), hidden) {
+        let outcome = plan_job(&job);
+        cases.add(&job, &outcome);
+        match (outcome, hidden) {
             (Outcome::Planned(sheet), hidden) => {
                 check_families(&job, &sheet);
                 hidden.iter().for_each(|hidden| check_hidden(&job, &sheet, hidden));
@@ -131,4 +184,5 @@ fn large_jobs_keep_their_ties() {
         }
     }
     assert!(planned > 1_000, "only {planned} were planned");
+    cases.require(5);
 }

@@ -13,7 +13,16 @@ use crate::tally::{Part, Tally};
 const KINDS: [Part; 3] = [
     ("division", &[("rounded", 15), ("rounded with mixed signs", 15), ("without rest", 30), ("not divided", 60)]),
     ("meeting", &[("met in none", 15), ("met in one", 60), ("met in more", 30), ("not met", 30)]),
-    ("carrying", &[("carried to none", 15), ("carried to one", 30), ("carried to more", 15), ("not carried", 30)]),
+    (
+        "carrying",
+        &[
+            ("carried to none", 15),
+            ("carried to one", 30),
+            ("carried to more", 15),
+            ("not carried", 30),
+            ("not carried by a zero alone", 300),
+        ],
+    ),
 ];
 
 /// Compare on so many calls, up to the first difference; whether all is well. The last line says what was done.
@@ -66,6 +75,8 @@ fn carry(random: &mut Random, tally: &mut Tally) -> Option<String> {
     let (q, (a, b, c)) = (some_run(random, number), some_tie(random, number));
     let wanted = working(plain::carry(a, b, c, q));
     tally.add(kind_of(&wanted, ["carried to none", "carried to one", "carried to more", "not carried"]));
+    let nonzero = |x| if x == 0 { 1 } else { x };
+    tally.add_if(wanted.reason == 9 && plain::carry(nonzero(a), nonzero(b), c, q).is_some(), "not carried by a zero alone");
     differ(&format!("carried over {a}·p + {b}·q = {c} from {q:?}"), archive::carry(a, b, c, q), wanted)
 }
 
@@ -162,13 +173,14 @@ fn some_tie(random: &mut Random, q: i64) -> (i64, i64, i64) {
     let (near, far) = (random.between(-50, 50), random.between(-MOST_SIDE, MOST_SIDE));
     let held = a * some_number(random) + b * q;
     let c = random.pick(&[held, held, near, far]);
-    let wrong = random.pick(&[0, MOST_COEFFICIENT + 1, -MOST_COEFFICIENT - 1, i64::MIN, i64::MAX, 1 << 32]);
+    let wrong = random.pick(&[0, 0, 0, MOST_COEFFICIENT + 1, -MOST_COEFFICIENT - 1, i64::MIN, i64::MAX, 1 << 32]);
     let wrong_side = random.sign() * random.pick(&[MOST_SIDE + 1, i64::MAX]);
     match random.index(30) {
         0 => (wrong, b, c),
         1 => (a, wrong, c),
         2 => (a, b, wrong_side),
         3 => (random.sign() * MOST_COEFFICIENT, b, random.sign() * MOST_SIDE),
+        4 => (wrong, wrong, c),
         _ => (a, b, c),
     }
 }
