@@ -3,7 +3,7 @@
 use std::io::{self, Write};
 
 use crate::archive::{self, Outcome};
-use crate::job::{self, MOST_COUNTS, MOST_EQUATIONS};
+use crate::job::{self, Equation, MOST_COUNTS, MOST_EQUATIONS};
 use crate::made::Call;
 use crate::plain;
 use crate::progress::Progress;
@@ -71,6 +71,20 @@ fn place(job: &[u8], at: usize) -> String {
     }
 }
 
+/// The forms of a tie that joins nothing.
+const FORMS: [&str; 5] = ["a alone 0", "b alone 0", "both 0", "a count twice", "a count twice with the sum 0"];
+
+/// Which of them it has, or none.
+fn form(tie: &Equation) -> Option<usize> {
+    match (tie.left == tie.right, tie.a, tie.b) {
+        (true, a, b) => Some(3 + usize::from(a + b == 0)),
+        (false, 0, 0) => Some(2),
+        (false, 0, _) => Some(0),
+        (false, _, 0) => Some(1),
+        _ => None,
+    }
+}
+
 /// How often each kind of job was there, so that an agreement on nothing does not pass.
 #[derive(Default)]
 struct Tally {
@@ -83,6 +97,8 @@ struct Tally {
     equal: u64,
     one: u64,
     full: u64,
+    /// by the form of a tie that joins nothing, with one at least: planned, and no fit
+    forms: [[u64; 2]; 5],
 }
 
 impl Tally {
@@ -91,6 +107,16 @@ impl Tally {
             1 => self.add_planned(job, &Sheet::read(area)),
             2 => self.no_fit += 1,
             _ => self.refused[outcome.reason as usize - 1] += 1,
+        }
+        if outcome.kind < 3 {
+            self.add_forms(job, outcome.kind as usize - 1);
+        }
+    }
+
+    fn add_forms(&mut self, job: &[u8], end: usize) {
+        let ties = job::read(job).map_or(Vec::new(), |job| job.equations);
+        for (number, ends) in self.forms.iter_mut().enumerate() {
+            ends[end] += u64::from(ties.iter().any(|tie| form(tie) == Some(number)));
         }
     }
 
@@ -116,7 +142,9 @@ impl Tally {
             [("several fits", self.several), ("equal worth", self.equal), ("one fit", self.one), ("full frame", self.full)];
         let named = outcomes.into_iter().chain(kinds).map(|(name, times)| (name.to_string(), times));
         let refused = (1..).zip(self.refused).map(|(reason, times)| (format!("refused for {reason}"), times));
-        named.chain(refused).filter(|(_, times)| *times == 0).map(|(name, _)| name).collect()
+        let forms =
+            FORMS.iter().zip(self.forms).map(|(name, ends)| (format!("both ends with {name}"), ends[0].min(ends[1])));
+        named.chain(refused).chain(forms).filter(|(_, times)| *times == 0).map(|(name, _)| name).collect()
     }
 
     fn report(&self, out: &mut impl Write, seed: u64, jobs: u64) -> io::Result<bool> {
@@ -127,6 +155,9 @@ impl Tally {
             "bench: planned with a tied group of several fits {}, of these of equal worth {}; of one fit {}; full frames {}",
             self.several, self.equal, self.one, self.full
         )?;
+        let forms: Vec<String> =
+            FORMS.iter().zip(self.forms).map(|(name, [planned, no_fit])| format!("{name}: {planned}, {no_fit}")).collect();
+        writeln!(out, "bench: with a tie that joins nothing, planned and no fit: {}", forms.join("; "))?;
         let missing = self.missing(jobs);
         let verdict =
             if missing.is_empty() { String::new() } else { format!(", but FAILED: never: {}", missing.join(", ")) };

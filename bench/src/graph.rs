@@ -25,7 +25,7 @@ pub struct Graph {
     pub in_tree: Vec<bool>,
 }
 
-/// At a count: an equation that names it, and the other count that it names.
+/// At a count: an equation that joins it, and the count that it is joined with.
 #[derive(Clone, Copy)]
 struct Edge {
     to: u16,
@@ -94,7 +94,7 @@ impl Graph {
 fn edges(job: &Job) -> (Vec<u16>, Vec<Edge>) {
     let n = job.counts.len();
     let mut starts = vec![0u16; n + 1];
-    for equation in &job.equations {
+    for equation in job.equations.iter().filter(|equation| equation.joins()) {
         starts[usize::from(equation.left) + 1] += 1;
         starts[usize::from(equation.right) + 1] += 1;
     }
@@ -103,7 +103,7 @@ fn edges(job: &Job) -> (Vec<u16>, Vec<Edge>) {
     }
     let mut places = starts.clone();
     let mut edges = vec![Edge { to: 0, equation: 0 }; 2 * job.equations.len()];
-    for (number, equation) in job.equations.iter().enumerate() {
+    for (number, equation) in job.equations.iter().enumerate().filter(|(_, equation)| equation.joins()) {
         for (from, to) in [(equation.left, equation.right), (equation.right, equation.left)] {
             let place = &mut places[usize::from(from)];
             edges[usize::from(*place)] = Edge { to, equation: number as u16 };

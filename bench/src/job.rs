@@ -1,4 +1,4 @@
-//! The job: its bytes, read and checked by the table of reasons, and written (document 01, "The job" and "The sheet").
+//! The job: its bytes, read and checked by the table of reasons, and written (document 01, "The job" and "The sheet"; 02, #102).
 
 const MARK: &[u8; 4] = b"FIT1";
 const HEADER: usize = 24;
@@ -57,13 +57,26 @@ impl Equation {
         Equation { left: u16_at(row, 0), right: u16_at(row, 2), a: i32_at(row, 4), b: i32_at(row, 8), c }
     }
 
-    fn names_two_of(&self, n: usize) -> bool {
-        usize::from(self.left) < n && usize::from(self.right) < n && self.left != self.right
+    /// Whether it joins two counts; otherwise it fixes one, or none.
+    pub fn joins(&self) -> bool {
+        self.left != self.right && self.a != 0 && self.b != 0
+    }
+
+    /// A count of the group that it belongs to.
+    pub fn home(&self) -> u16 {
+        if self.a == 0 && self.b != 0 {
+            self.right
+        } else {
+            self.left
+        }
+    }
+
+    fn names_counts_below(&self, n: usize) -> bool {
+        usize::from(self.left) < n && usize::from(self.right) < n
     }
 
     fn in_range(&self) -> bool {
-        let coefficient = |x: i32| x != 0 && within(x, MOST_COEFFICIENT);
-        coefficient(self.a) && coefficient(self.b) && self.c.unsigned_abs() <= MOST_SIDE as u64
+        within(self.a, MOST_COEFFICIENT) && within(self.b, MOST_COEFFICIENT) && self.c.unsigned_abs() <= MOST_SIDE as u64
     }
 }
 
@@ -87,7 +100,7 @@ pub fn read(bytes: &[u8]) -> Result<Job, Refusal> {
     let mut equations = Vec::with_capacity(m);
     for (row, bytes) in equation_rows.chunks_exact(EQUATION_ROW).enumerate() {
         let equation = Equation::read(bytes);
-        if !equation.names_two_of(n) {
+        if !equation.names_counts_below(n) {
             return refused(6, row);
         }
         if !equation.in_range() {

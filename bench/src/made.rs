@@ -52,8 +52,9 @@ pub fn small(random: &mut Random) -> Job {
     let mut counts: Vec<Count> = (0..n).map(|_| small_count(random)).collect();
     let point: Vec<i64> =
         counts.iter().map(|count| random.between(count.low.into(), count.high.max(count.low).into())).collect();
-    let ties = if n < 2 { 0 } else { random.index(8) };
-    let equations: Vec<Equation> = (0..ties).map(|_| small_tie(random, &point)).collect();
+    let loose = random.pick(&[0, 0, 20, 50]);
+    let ties = if n == 0 || n == 1 && loose == 0 { 0 } else { random.index(8) };
+    let equations: Vec<Equation> = (0..ties).map(|_| small_tie(random, &point, loose)).collect();
     weigh(random, &mut counts, &equations);
     Job { counts, equations }
 }
@@ -63,10 +64,15 @@ fn small_count(random: &mut Random) -> Count {
     Count { low, high: low + random.between(-1, 12) as i32, weight: random.between(-3, 3) as i32 }
 }
 
-/// Mostly through the point.
-fn small_tie(random: &mut Random, point: &[i64]) -> Equation {
-    let (p, q) = random.two_of(point.len());
+/// Mostly through the point. By a chance of `loose` in a hundred it joins nothing.
+fn small_tie(random: &mut Random, point: &[i64], loose: i64) -> Equation {
+    let (p, q) = if point.len() == 1 { (0, 0) } else { random.two_of(point.len()) };
     let (a, b) = (random.sign() * random.between(1, 4), random.sign() * random.between(1, 4));
+    let (q, a, b) = if random.chance(loose) {
+        random.pick(&[(q, a, 0), (q, 0, b), (q, 0, 0), (p, a, b), (p, a, -a)])
+    } else {
+        (q, a, b)
+    };
     let beside = if random.chance(15) { random.between(-2, 2) } else { 0 };
     Equation { left: p as u16, right: q as u16, a: a as i32, b: b as i32, c: a * point[p] + b * point[q] + beside }
 }
@@ -91,7 +97,7 @@ pub fn large(random: &mut Random) -> Job {
     job
 }
 
-/// Part by part of the counts, in any order: a tree, and rings, of which some cross.
+/// Part by part of the counts, in any order: a tree, and rings, of which some cross. Then ties that join nothing.
 fn tied(random: &mut Random, hidden: &Hidden, reach: i64) -> Vec<Equation> {
     let crossing = random.pick(&[0, 0, 5, 20, 50]);
     let mut order: Vec<usize> = (0..hidden.base.len()).collect();
@@ -111,6 +117,10 @@ fn tied(random: &mut Random, hidden: &Hidden, reach: i64) -> Vec<Equation> {
             ties.push(tie(random, hidden, reach, crossing, part[p], part[q]));
         }
     }
+    let fixing = random.chance(40);
+    for _ in 0..random.pick(&[0, 0, 0, 1, 2, 10]) {
+        ties.push(fix(random, hidden, reach, fixing));
+    }
     let lawful = ties.into_iter().filter(|tie| tie.c.abs() <= MOST_SIDE);
     lawful.take(MOST_EQUATIONS).collect()
 }
@@ -126,13 +136,27 @@ fn tie(random: &mut Random, hidden: &Hidden, reach: i64, crossing: i64, p: usize
 
 /// Through one fit-out of the family alone, mostly: often through the first or the last, or the next past it.
 fn crossed(random: &mut Random, hidden: &Hidden, reach: i64, p: usize, q: usize) -> Equation {
-    let mut side = || {
-        let any = random.between(1, MOST_COEFFICIENT);
-        random.pick(&[1, 1, -1, 2, 3, -7, 1_000_000, -999_999, any])
-    };
-    let (a, b) = (side(), side());
+    let (a, b) = (side(random), side(random));
     let k = if reach <= 100 { random.between(-reach - 1, reach + 1) } else { 0 };
     hidden.through(k, p, q, a, b)
+}
+
+/// A tie that joins nothing: one that fixes a count at the base or near it, or one that says nothing.
+fn fix(random: &mut Random, hidden: &Hidden, reach: i64, fixing: bool) -> Equation {
+    let (p, q) = (random.index(hidden.base.len()), random.index(hidden.base.len()));
+    let (a, b) = (side(random), side(random));
+    let (p, q, a, b) = if fixing {
+        random.pick(&[(p, q, a, 0), (p, q, 0, b), (p, p, a, b), (p, p, a, a)])
+    } else {
+        random.pick(&[(p, q, 0, 0), (p, p, a, -a)])
+    };
+    let k = if reach <= 100 && random.chance(30) { random.between(-reach - 1, reach + 1) } else { 0 };
+    hidden.through(k, p, q, a, b)
+}
+
+fn side(random: &mut Random) -> i64 {
+    let any = random.between(1, MOST_COEFFICIENT);
+    random.pick(&[1, 1, -1, 2, 3, -7, 1_000_000, -999_999, any])
 }
 
 /// Bounds about the base, up to so many steps away, as far as numbers go.
@@ -144,7 +168,7 @@ fn bounded(random: &mut Random, hidden: &Hidden, i: usize, reach: i64) -> Count 
     Count { low: low as i32, high: high as i32, weight: random.between(-MOST_WEIGHT, MOST_WEIGHT) as i32 }
 }
 
-/// A frame, some of them with a tie that crosses or has another right-hand side.
+/// A frame, some of them with a tie that crosses or has another right-hand side, and some with ties that say nothing.
 pub fn framed(random: &mut Random) -> Job {
     let (shape, ..) = random.pick(&SHAPES);
     let steps = random.pick(&[Steps::Small, Steps::Large]);
@@ -153,10 +177,22 @@ pub fn framed(random: &mut Random) -> Job {
     if random.chance(30) {
         weigh(random, &mut job.counts, &job.equations);
     }
+    if !job.equations.is_empty() && random.chance(30) {
+        for _ in 0..random.pick(&[1, 4, 40]) {
+            let at = random.index(job.equations.len());
+            silence(random, &mut job.equations[at]);
+        }
+    }
     if random.chance(20) {
         shift(random, &mut job);
     }
     job
+}
+
+/// Let a tie say nothing: 0 = 0, with both coefficients 0 or with those of one count that make up for each other.
+fn silence(random: &mut Random, tie: &mut Equation) {
+    let (right, a) = random.pick(&[(tie.right, 0), (tie.left, tie.a)]);
+    *tie = Equation { left: tie.left, right, a, b: -a, c: 0 };
 }
 
 /// Another right-hand side for some equation.

@@ -38,7 +38,7 @@ pub fn plan(bytes: &[u8], area: &mut [u8]) -> Outcome {
         return Outcome::Refused(Refusal { reason: 8, row: 0 });
     }
     let mut families = Families::of_trees(&job, &graph);
-    families.close_rings(&job, &graph);
+    families.put_rest(&job, &graph);
     match families.fits.iter().position(|&fits| fits == 0) {
         Some(group) => Outcome::NoFit(graph.members(group)[0]),
         None => Outcome::Planned(sheet::write(area, &job, &graph.group, &families.fits, &families.lines)),
@@ -63,18 +63,18 @@ impl Families {
         Families { fits, lines }
     }
 
-    /// The equations off the trees, in turn.
-    fn close_rings(&mut self, job: &Job, graph: &Graph) {
+    /// The equations off the trees, in turn: those that close a ring, and those that join nothing.
+    fn put_rest(&mut self, job: &Job, graph: &Graph) {
         for (equation, &in_tree) in job.equations.iter().zip(&graph.in_tree) {
-            let group = usize::from(graph.group[usize::from(equation.left)]);
+            let group = usize::from(graph.group[usize::from(equation.home())]);
             if !in_tree && self.fits[group] > 0 {
-                self.close_ring(equation, graph, group);
+                self.put(equation, graph, group);
             }
         }
     }
 
-    /// Redundant, or one candidate k, or none.
-    fn close_ring(&mut self, equation: &Equation, graph: &Graph, group: usize) {
+    /// Redundant, or one candidate k, or none. A count of another group has the coefficient 0, so that its line says nothing here.
+    fn put(&mut self, equation: &Equation, graph: &Graph, group: usize) {
         let (left, right) = (self.lines[usize::from(equation.left)], self.lines[usize::from(equation.right)]);
         let (a, b, c) = (i128::from(equation.a), i128::from(equation.b), i128::from(equation.c));
         let slope = a * left.step + b * right.step;

@@ -54,10 +54,11 @@ fn spoil_count(random: &mut Random, job: &mut Job) {
 fn spoil_names(random: &mut Random, job: &mut Job) {
     let n = job.counts.len() as u16;
     if let Some(equation) = some_row(random, &mut job.equations) {
+        let absent = random.pick(&[n, n + 1, 256, 65_535]);
         match random.index(3) {
-            0 => equation.left = random.pick(&[n, n + 1, 256, 65_535]),
-            1 => equation.right = random.pick(&[n, n + 1, 256, 65_535]),
-            _ => equation.left = equation.right,
+            0 => equation.left = absent,
+            1 => equation.right = absent,
+            _ => (equation.left, equation.right) = (absent, absent),
         }
     }
 }
@@ -65,9 +66,10 @@ fn spoil_names(random: &mut Random, job: &mut Job) {
 fn spoil_sides(random: &mut Random, job: &mut Job) {
     let (coefficient, side) = (past(random, MOST_COEFFICIENT) as i32, past(random, MOST_SIDE));
     if let Some(equation) = some_row(random, &mut job.equations) {
-        match random.index(3) {
-            0 => equation.a = random.pick(&[0, coefficient, i32::MIN]),
-            1 => equation.b = random.pick(&[0, coefficient, i32::MIN]),
+        match random.index(4) {
+            0 => equation.a = random.pick(&[coefficient, coefficient, i32::MIN]),
+            1 => equation.b = random.pick(&[coefficient, coefficient, i32::MIN]),
+            2 => (equation.right, equation.a, equation.b) = (equation.left, coefficient, -coefficient),
             _ => equation.c = random.pick(&[side, side, i64::MIN, i64::MAX]),
         }
     }

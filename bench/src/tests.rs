@@ -1,4 +1,5 @@
-//! Both programs on document 01's "Jobs to try", and on many jobs with overflow checks where the build has them.
+//! Both programs on document 01's "Jobs to try", on the ties of document 02's #102, and on many jobs with overflow checks where the
+//! build has them.
 
 use crate::agree;
 use crate::archive::Outcome;
@@ -139,6 +140,98 @@ fn limits() {
     let tied = |a: i32| job::write(&made(&[(0, 0, 0); 2], &[(0, 1, a, 1, 0)]));
     assert_eq!(given(&tied(1_000_000), 100).0.kind, 1);
     assert_eq!(refused(&tied(1_000_001), 100), (7, 0));
+    assert_eq!(given(&tied(0), 100).0.kind, 1);
+    // a sum in range does not make up for a coefficient that is not
+    let twice = |left, a, b| job::write(&made(&[(0, 0, 0); 2], &[(0, 0, 0, 0, 0), (left, 1, a, b, 0)]));
+    assert_eq!(given(&twice(1, 1_000_000, 1_000_000), 100).0.kind, 1);
+    assert_eq!([refused(&twice(1, 1_000_001, -1_000_001), 100), refused(&twice(1, 0, 2_000_000), 100)], [(7, 1); 2]);
+    assert_eq!(refused(&twice(2, 1_000_001, 0), 100), (6, 1));
+}
+
+/// One count, and one equation that names it twice.
+fn lone(count: (i32, i32, i32), (a, b, c): (i32, i32, i64)) -> Job {
+    made(&[count], &[(0, 0, a, b, c)])
+}
+
+fn only(worth: i64, number: i32) -> Sheet {
+    Sheet { worth, counts: vec![count(number, number, 0, 0)], groups: vec![group(1, 0, 0)] }
+}
+
+/// The coefficient is the sum of the two.
+#[test]
+fn the_same_count_twice() {
+    let digit = (0, 9, 2);
+    for sides in [(3, 0, 12), (0, 3, 12), (2, 1, 12), (-4, 1, -12)] {
+        assert_eq!(sheet(&lone(digit, sides)), only(8, 4));
+        assert_eq!(no_fit(&lone((5, 9, 2), sides)), 0);
+    }
+    for sides in [(2, 1, 13), (2, 1, 30), (3, -3, 1), (0, 0, 5), (0, 0, -2_000_000_000_000_000)] {
+        assert_eq!(no_fit(&lone(digit, sides)), 0);
+    }
+    let free = Sheet { worth: 18, counts: vec![count(9, 0, 1, 0)], groups: vec![group(10, 9, 2)] };
+    for sides in [(3, -3, 0), (0, 0, 0), (-1_000_000, 1_000_000, 0)] {
+        assert_eq!(sheet(&lone(digit, sides)), free);
+    }
+}
+
+#[test]
+fn a_million_twice() {
+    let (full, million, most) = ((-1_000_000_000, 1_000_000_000, 1), 1_000_000, 2_000_000_000_000_000);
+    for sign in [1, -1] {
+        let highest = sheet(&lone(full, (sign * million, sign * million, i64::from(sign) * most)));
+        assert_eq!(highest, only(1_000_000_000, 1_000_000_000));
+        let lowest = sheet(&lone(full, (sign * million, sign * million, i64::from(-sign) * most)));
+        assert_eq!(lowest, only(-1_000_000_000, -1_000_000_000));
+    }
+    assert_eq!(no_fit(&lone(full, (million, million, most - 1_000_000))), 0);
+    // at k = 1,000 of the 2,000 fit-outs both counts are 1
+    let tied = |c| made(&[full; 2], &[(1, 1, million, million, c), (0, 1, million, 1 - million, 1)]);
+    let wanted = Sheet { worth: 2, counts: vec![count(1, 1, 0, 0), count(1, 1, 0, 0)], groups: vec![group(1, 0, 0)] };
+    assert_eq!(sheet(&tied(2_000_000)), wanted);
+    assert_eq!(no_fit(&tied(4_000_000)), 0);
+}
+
+/// A coefficient 0 joins nothing: the equation is one of the other count's group, or of the left one's where both are 0.
+#[test]
+fn zeros_between_groups() {
+    let with = |equation| made(&[(0, 3, 1), (0, 9, 1)], &[equation]);
+    let wanted =
+        Sheet { worth: 7, counts: vec![count(3, 0, 1, 0), count(4, 4, 0, 1)], groups: vec![group(4, 3, 1), group(1, 0, 0)] };
+    assert_eq!(sheet(&with((0, 1, 0, 2, 8))), wanted);
+    assert_eq!(sheet(&with((1, 0, 2, 0, 8))), wanted);
+    assert_eq!([no_fit(&with((0, 1, 0, 2, 9))), no_fit(&with((1, 0, 0, 2, 8)))], [1, 0]);
+    // 0 = 5 is named by the lowest count of its group, and an earlier group without a fit comes first
+    let with = |first, equation| made(&[first, (0, 9, 0), (0, 9, 0)], &[equation, (2, 1, 1, -1, 0)]);
+    let digit = (0, 9, 0);
+    assert_eq!([no_fit(&with(digit, (2, 0, 0, 0, 5))), no_fit(&with(digit, (0, 2, 0, 0, 5)))], [1, 0]);
+    assert_eq!([no_fit(&with(digit, (2, 2, 4, -4, 5))), no_fit(&with((9, 0, 0), (2, 0, 0, 0, 5)))], [1, 0]);
+    let wanted = Sheet {
+        worth: 0,
+        counts: vec![count(9, 0, 1, 0), count(9, 0, 1, 1), count(9, 0, 1, 1)],
+        groups: vec![group(10, 9, 0), group(10, 9, 0)],
+    };
+    assert_eq!(sheet(&with(digit, (2, 0, 0, 0, 0))), wanted);
+    // two groups, and so 24 + 16·3 + 16·2 bytes
+    assert_eq!(refused(&job::write(&with(digit, (2, 0, 0, 0, 0))), 103), (8, 0));
+}
+
+/// c0 + c1 = 5 and an equation on one of them, before and behind.
+#[test]
+fn one_count_of_a_group() {
+    let joined = (0, 1, 1, 1, 5);
+    let both = |equation| [[joined, equation], [equation, joined]].map(|ties| made(&[(0, 9, 1), (0, 9, 0)], &ties));
+    let wanted = Sheet { worth: 3, counts: vec![count(3, 3, 0, 0), count(2, 2, 0, 0)], groups: vec![group(1, 0, 0)] };
+    for equation in [(0, 1, 0, 2, 4), (1, 0, 2, 0, 4), (0, 1, 3, 0, 9), (1, 1, 1, 1, 4), (0, 0, 4, -1, 9)] {
+        both(equation).iter().for_each(|job| assert_eq!(sheet(job), wanted));
+    }
+    let all = Sheet { worth: 5, counts: vec![count(5, 0, 1, 0), count(0, 5, -1, 0)], groups: vec![group(6, 5, 1)] };
+    for equation in [(0, 1, 0, 0, 0), (1, 0, 0, 0, 0), (1, 1, 7, -7, 0)] {
+        both(equation).iter().for_each(|job| assert_eq!(sheet(job), all));
+    }
+    // half a card, past a bound of the count, past one of the other
+    for equation in [(1, 1, 1, 1, 5), (1, 1, 1, 0, 10), (0, 0, 1, 0, 6), (0, 1, 0, 0, 1)] {
+        assert_eq!(both(equation).map(|job| no_fit(&job)), [0; 2]);
+    }
 }
 
 /// In a build for tests a number that does not fit i128 stops the plain program.
