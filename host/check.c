@@ -263,8 +263,9 @@ static void try_check(void) {
     spoiled("a byte at 23", 23, 1, 4, 0);
     spoiled("count 3, high 1,073,741,829", 67, 64, 5, 3);
     spoiled("row 1 names count 4", 94, 4, 6, 1);
-    spoiled("row 1 names count 0 twice", 94, 0, 6, 1);
-    spoiled("row 0 with a = 0", 76, 0, 7, 0);
+    spoiled("row 1 names count 0 twice", 94, 0, 0, 0);
+    spoiled("row 0 with a = 0", 76, 0, 0, 0);
+    spoiled("row 0 with a = 1,048,592", 78, 16, 7, 0);
 }
 
 /* ---- the workings ---- */

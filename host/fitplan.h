@@ -2,7 +2,7 @@
  * Link libfitplan.a.
  *
  * A job has counts, each with a low, a high and a weight, and equations a*left + b*right = c, each
- * on two counts. A fit-out gives every count a whole number from its low to its high such that all
+ * on two counts or on one. A fit-out gives every count a whole number from its low to its high such that all
  * equations hold. The planner writes the fit-out of greatest worth, the sum of weight * number; or
  * says that there is no fit; or refuses the call. Among fit-outs of equal worth it takes the one
  * with the higher number at count 0, then at count 1, and so on.
@@ -38,13 +38,18 @@
  *                             4  i32  high, likewise; below the low is allowed, and leaves no fit
  *                             8  i32  weight, within +-1,000,000
  *     equation row, 20 bytes  0  u16  left count, below n
- *                             2  u16  right count, below n, and not the left one
- *                             4  i32  a, 1 to 1,000,000 in size, with either sign
+ *                             2  u16  right count, below n; the left one too is allowed
+ *                             4  i32  a, within +-1,000,000; 0 is allowed
  *                             8  i32  b, likewise
  *                            12  i64  c, within +-2,000,000,000,000,000
  *
- * A group is a largest set of counts that equations join; a count that no equation names is a group
- * of its own. Groups are numbered in the order of their lowest counts. The fit-outs of a group are
+ * An equation joins its two counts if they differ and neither a nor b is 0. Any other fixes one count
+ * or none: with the same count twice the coefficient is a + b, and 0 = c leaves no fit unless c is 0.
+ * To say "three times count 4 is 12": left 4, right 4, a 3, b 0, c 12.
+ *
+ * A group is a largest set of counts that equations join; a count that no equation joins to another is
+ * a group of its own. An equation that joins no two counts belongs to the group of its count with a
+ * coefficient that is not 0, or of its left count when both are 0. Groups are numbered in the order of their lowest counts. The fit-outs of a group are
  * base + step * k, with k from 0 to fits - 1, over all its counts together.
  *
  * The sheet, written on "planned": a header, n count rows, g group rows.
@@ -75,9 +80,10 @@
  *                            16  u16  g
  *                            18       six zero bytes
  *     count row, 4 bytes      0  u16  group
- *                             2  u16  how many equations name the count
+ *                             2  u16  how many equations name the count, with whatever coefficient;
+ *                                     one that names it twice is one
  *     equation row, 4 bytes   0  u16  group
- *                             2  u16  kind: FIT_MAP_JOINS or FIT_MAP_RING
+ *                             2  u16  kind: FIT_MAP_JOINS, FIT_MAP_RING or FIT_MAP_FIXES
  *
  * Bytes past the end of a report stay as they were. A refused call leaves every area untouched.
  */
@@ -108,7 +114,7 @@ enum {
     FIT_REASON_TOO_MANY = 3,        /* more than 256 counts or 1,024 equations */
     FIT_REASON_HEADER = 4,          /* an offset, the zero field, the length field or the real length is wrong */
     FIT_REASON_COUNT_RANGE = 5,     /* low, high or weight out of range; with the count row */
-    FIT_REASON_EQUATION_COUNTS = 6, /* a count not below n, or twice the same; with the equation row */
+    FIT_REASON_EQUATION_COUNTS = 6, /* a count not below n; with the equation row */
     FIT_REASON_EQUATION_RANGE = 7,  /* a, b or c out of range; with the equation row */
     FIT_REASON_SHORT_AREA = 8,      /* the area is shorter than the sheet, 24 + 16n + 16g */
     FIT_REASON_ARGUMENT = 9,        /* workings: an argument out of its limits, or a run not in form */
@@ -118,7 +124,8 @@ enum {
 /* The kind of an equation on the map. */
 enum {
     FIT_MAP_JOINS = 1, /* it joins two sets of counts that the rows before it left separate */
-    FIT_MAP_RING = 2   /* its counts were joined already, so it closes a ring */
+    FIT_MAP_RING = 2,  /* its counts were joined already, so it closes a ring */
+    FIT_MAP_FIXES = 3  /* it joins no two counts: it fixes one, or says 0 = c */
 };
 
 /* The most that a job can have, and the lengths of the longest job, sheet and map: areas of these
@@ -211,7 +218,7 @@ struct fit_working {
 struct fit_working fit_meet(struct fit_run a, struct fit_run b);
 
 /* The run of all p within +-1,000,000,000 with a * p + b * x = c for some x in the run q; a, b and c
- * are limited as in an equation row. */
+ * are limited as in an equation row, and neither a nor b is 0. */
 struct fit_working fit_carry(int64_t a, int64_t b, int64_t c, struct fit_run q);
 
 /* The layout for which the archive is compiled. */

@@ -88,6 +88,7 @@ static inline void show_map(const uint8_t *map) {
         show(" group ", u16_at(row));
         if (kind == FIT_MAP_JOINS) show_text(" kind joins");
         else if (kind == FIT_MAP_RING) show_text(" kind ring");
+        else if (kind == FIT_MAP_FIXES) show_text(" kind fixes");
         else show(" kind ", kind);
         put('\n');
     }
