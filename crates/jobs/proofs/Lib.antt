@@ -34,6 +34,9 @@ pub mod Solutions
 -- from components to the whole job and back: `solves-iff`, `part-solution`, `assembled-solution`; the job has a solution exactly
 -- when each component has one (`some-iff`)
 pub mod Assembly
+-- equations that join no two counts, in document 02's words: they say coefficient · home = c (`value-is`); 0 = c with c not 0 leaves its
+-- group without a fit (`no-fit`), and 0 = 0 leaves everything (`always`)
+pub mod UnaryEquations
 -- where the best stands among the solutions: `chosen-at`
 pub mod PlaceOfBest
 -- what no tie-break moves: bases, steps, fits, gains and worth are the same by any order among equals (`any-order`), and so by
