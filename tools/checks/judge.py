@@ -1,5 +1,6 @@
 """All fit-outs of a job, group by group, by another way than the planner's: every count of a group is a fraction of its lowest count,
-first + slope * t; the t for which all are whole are one residue class, and the bounds leave an interval of it."""
+first + slope * t; the t for which all are whole are one residue class, the bounds leave an interval of it, and each tie that does not
+join leaves one t, or all, or none. A tie is (left, right, a, b, c)."""
 
 import math
 from fractions import Fraction
@@ -20,10 +21,21 @@ class Fits(NamedTuple):
         return {i: int(start + slope * t) for i, (start, slope) in self.lines.items()}
 
 
+def is_joining(tie):
+    left, right, a, b, _ = tie
+    return left != right and a != 0 and b != 0
+
+
+def home(tie):
+    """The count to whose group a tie belongs."""
+    left, right, a, b, _ = tie
+    return right if a == 0 and b != 0 else left
+
+
 def groups(n, ties):
-    """The members of each group, in the order of their lowest counts. ties: (left, right, a, b, c)."""
+    """The members of each group, in the order of their lowest counts."""
     lowest = list(range(n))
-    for left, right, *_ in ties:
+    for left, right, *_ in filter(is_joining, ties):
         p, q = lowest[left], lowest[right]
         lowest = [min(p, q) if low in (p, q) else low for low in lowest]
     return [[i for i in range(n) if lowest[i] == low] for low in sorted(set(lowest))]
@@ -31,11 +43,11 @@ def groups(n, ties):
 
 def lines_of(members, ties):
     """Each count as (first, slope) of the lowest; and the ties that were left over."""
-    lines, waiting = {members[0]: (Fraction(0), Fraction(1))}, [tie for tie in ties if tie[0] in members]
+    lines, waiting = {members[0]: (Fraction(0), Fraction(1))}, [tie for tie in ties if home(tie) in members]
     moved = True
     while moved:
         moved = False
-        for tie in list(waiting):
+        for tie in filter(is_joining, list(waiting)):
             left, right, a, b, c = tie
             if right in lines and left not in lines:
                 left, right, a, b = right, left, b, a
@@ -45,6 +57,13 @@ def lines_of(members, ties):
                 waiting.remove(tie)
                 moved = True
     return lines, waiting
+
+
+def along(tie, lines):
+    """The left side of a tie as (first, slope). A count of another group has the coefficient 0."""
+    left, right, a, b, _ = tie
+    ends = [(factor, lines[i]) for factor, i in ((a, left), (b, right)) if factor]
+    return tuple(sum(factor * line[k] for factor, line in ends) for k in (0, 1))
 
 
 def met(one, other):
@@ -89,9 +108,9 @@ def fits(members, bounds, ties):
     """The fit-outs of one group, or None."""
     lines, left_over = lines_of(members, ties)
     found, (least, most) = whole_class(lines), interval(lines, bounds)
-    for left, right, a, b, c in left_over:
-        slope = a * lines[left][1] + b * lines[right][1]
-        rest = c - a * lines[left][0] - b * lines[right][0]
+    for tie in left_over:
+        start, slope = along(tie, lines)
+        rest = tie[4] - start
         if slope == 0 and rest != 0:
             return None
         if slope != 0:

@@ -24,18 +24,32 @@ def count_line(chance, name, hidden, width):
     return f"count {name} {low}..{high} weight {weight}".replace("  ", " ")
 
 
-def tie_line(chance, called, hidden, largest):
-    """A tie that the hidden numbers keep, or now and then nearly."""
-    left, right = chance.sample(range(len(hidden)), 2)
+def tie_line(chance, called, hidden, largest, wrong=0.15, pair=None):
+    """A tie between two counts that the hidden numbers keep, but for the share of those that are wrong."""
+    left, right = pair or chance.sample(range(len(hidden)), 2)
     a, b = (chance.choice((-1, 1)) * chance.randint(1, largest) for _ in range(2))
-    side = a * hidden[left] + b * hidden[right] + (chance.random() < 0.15) * chance.randint(-4, 4)
-    if chance.random() < 0.01:  # out of reach for every number, whatever the bounds
-        side = min(3 * LIMIT * (abs(a) + abs(b)), 2_000_000_000_000_000) * chance.choice((-1, 1))
-    return f"tie {a} {called[left]} + {b} {called[right]} = {side}"
+    return tie_text(chance, called, hidden, [(a, left), (b, right)], wrong)
+
+
+def fixing_line(chance, called, hidden, largest, wrong=0.15):
+    """A tie that joins nothing, likewise: with one term, with a coefficient 0, or with one count twice."""
+    one, other = (chance.randrange(len(hidden)) for _ in range(2))
+    a, b = (chance.choice((-1, 1)) * chance.randint(1, largest) for _ in range(2))
+    forms = [[(a, one)], [(a, one)], [(a, one), (0, other)], [(0, other), (a, one)], [(a, one), (b, one)], [(a, one), (b, one)]]
+    nothing = [[(0, one)], [(0, one), (0, other)], [(a, one), (-a, one)]]
+    return tie_text(chance, called, hidden, chance.choice(forms if chance.random() < 0.85 else nothing), wrong)
+
+
+def tie_text(chance, called, hidden, terms, wrong):
+    side = sum(coefficient * hidden[i] for coefficient, i in terms) + (chance.random() < wrong) * chance.randint(-4, 4)
+    if chance.random() < 0.02 and wrong:  # out of reach for every number, whatever the bounds
+        most = LIMIT * sum(abs(coefficient) for coefficient, _ in terms)
+        side = min(3 * most, 2_000_000_000_000_000) * chance.choice((-1, 1))
+    return f"tie {' + '.join(f'{coefficient} {called[i]}' for coefficient, i in terms)} = {side}"
 
 
 def lawful(chance):
-    """A job that is not refused: in some the ties are a chain with rings of up to 60 counts."""
+    """A job that is not refused: of up to 90 counts, with rings, and in half of the jobs with ties that join nothing."""
     hidden = numbers_near(chance, chance.choice((5, 40, 1000)))
     if chance.random() < 0.05:
         hidden = hidden * chance.choice((3, 10))
@@ -44,8 +58,9 @@ def lawful(chance):
     names = [name if chance.random() < 0.5 else "" for name in names[: len(hidden)]]
     called = [name or f"c{i}" for i, name in enumerate(names)]
     lines = [count_line(chance, name, number, width) for name, number in zip(names, hidden)]
-    if len(hidden) > 1:
-        lines += [tie_line(chance, called, hidden, largest) for _ in range(chance.randint(0, len(hidden) + 2))]
+    share = chance.choice((0, 0, 0.15, 0.5)) if len(hidden) > 1 else 1
+    for _ in range(chance.randint(0, len(hidden) + 2)):
+        lines.append((fixing_line if chance.random() < share else tie_line)(chance, called, hidden, largest))
     return "\n".join(lines) + "\n"
 
 
@@ -70,9 +85,10 @@ def faulty(chance):
                 f"count extra 0..{high}",
                 f"count extra {-high}..0",
                 f"count extra 0..1 weight {chance.choice((-1, 1)) * chance.randint(1_000_001, 2_000_000)}",
-                f"tie c0 + c{many + chance.randint(0, 3)} = 1",
-                "tie 2 c0 + 3 c0 = 1",
-                f"tie {chance.choice((0, 1_000_001, -1_000_001))} c0 + c{many - 1} = 1",
+                f"tie c0 + {chance.choice((0, 1))} c{many + chance.randint(0, 3)} = 1",
+                f"tie 2 c{many + chance.randint(0, 3)} = 1",
+                f"tie {chance.choice((1_000_001, -1_000_001))} c0 + c{many - 1} = 1",
+                f"tie {chance.choice((1_000_001, -1_000_001))} c0 = 1",
                 f"tie c0 + c{many - 1} = {chance.choice((-1, 1)) * 2_000_000_000_000_001}",
             )
         ),

@@ -22,6 +22,20 @@ def value(text):
     return int(text.replace(",", ""))
 
 
+def added(terms):
+    """Coefficients by count, those of one count added up; none that is 0."""
+    sums = {}
+    for coefficient, i in terms:
+        sums[i] = sums.get(i, 0) + coefficient
+    return {i: coefficient for i, coefficient in sums.items() if coefficient}
+
+
+def says(tie):
+    """What a row says of its counts: coefficients by count."""
+    left, right, a, b, _ = tie
+    return added([(a, left), (b, right)])
+
+
 class Explained:
     """A job, the lines of its explanation, and what is wrong with them."""
 
@@ -42,6 +56,18 @@ class Explained:
         return [self.number[name] for name in shown.split(", ")], value(more or "0")
 
     # ---- sums
+
+    def terms(self, text):
+        """The terms of a tie's left side: (coefficient, count)."""
+        first, *others = re.split(" ([-+]) ", text)
+        signed = [("-" if first[0] == "-" else "+", first.lstrip("-")), *zip(others[::2], others[1::2])]
+        found = [(sign, *re.match(r"(?:([\d,]+) )?([^\W\d].*)$", term).groups()) for sign, term in signed if text != "0"]
+        return [(value(size or "1") * (-1 if sign == "-" else 1), self.number[name]) for sign, size, name in found]
+
+    def is_left_side(self, text, tie):
+        """Whether a text has what a row says, each count once."""
+        terms = self.terms(text)
+        return {i: coefficient for coefficient, i in terms} == says(tie) and len(terms) == len(says(tie))
 
     def product_sum(self, text, numbers):
         """The sum of weight x number over the counts that have a weight: each term is right, and the rest comes to what is said."""
@@ -99,7 +125,7 @@ def title(told, g, members, line):
     """The first line on a group: its counts, how many they are, and how many ties it has."""
     found = re.match(rf"group {g}: (.*) \((?:([\d,]+) counts, )?(?:([\d,]+) ties?|untied)\)$", line)
     shown, more = told.names(found.group(1))
-    ties = sum(tie[0] in members for tie in told.ties)
+    ties = sum(judge.home(tie) in members for tie in told.ties)
     told.hold(shown == members[: len(shown)] and len(shown) + more == len(members), "the counts of a group")
     told.hold(value(found.group(2) or str(len(members))) == len(members), "how many counts a group has")
     told.hold(value(found.group(3) or "0") == ties, "how many ties a group has")
@@ -169,10 +195,16 @@ def only_one(told, g, fits, lines):
     told.hold(numbers(told, re.match(r"  One fit-out: (.*)\.$", lines[1]).group(1), chosen), "the only fit-out")
     joins, others = joins_of(told, fits.members)
     free = {i: (-LIMIT, LIMIT) for i in fits.members}
-    ring = re.match(r"  The tie (.*) \((line|tie) (\d+)\) closes a ring with (?:lines?|ties?) (.*), and leaves only this one\.$", lines[2])
-    if ring:
-        rows = [k for k in others if (told.job.ties[k].line or k) == int(ring.group(3))]
-        told.hold(any(judge.fits(fits.members, free, [told.ties[j] for j in joins] + [told.ties[k]]).many == 1 for k in rows), "the ring")
+    what = rf"closes a ring with (?:lines?|ties?) .*|fixes (.*) at ({NUMBER})"
+    by_tie = re.match(rf"  The tie (.*) = ({NUMBER}) \((?:line|tie) (\d+)\) (?:{what}), and leaves only this one\.$", lines[2])
+    if by_tie:
+        left, side, place, name, number = by_tie.groups()
+        (tie,) = [told.ties[k] for k in others if (told.job.ties[k].line or k) == int(place)]
+        told.hold(told.is_left_side(left, tie) and tie[4] == value(side), f"another tie: {lines[2]}")
+        told.hold(judge.fits(fits.members, free, [*(told.ties[j] for j in joins), tie]).many == 1, "the tie leaves more than one")
+        told.hold(judge.is_joining(tie) == (name is None), "a ring, or a tie on one count")
+        if name is not None:
+            told.hold(list(says(tie)) == [told.number[name]] and chosen[told.number[name]] == value(number), f"what is fixed: {lines[2]}")
         return chosen
     relaxed = judge.fits(fits.members, free, [told.ties[k] for k in joins])
     if lines[2] == "  Within ±1,000,000,000 the ties leave only this one.":
@@ -191,9 +223,10 @@ def joins_of(told, members):
     """The ties of a group that join what the ones before left apart, and the others."""
     joins, others = [], []
     for k, tie in enumerate(told.ties):
-        if tie[0] in members:
+        if judge.home(tie) in members:
             before = judge.groups(len(told.bounds), told.ties[:k])
-            (others if any(tie[0] in one and tie[1] in one for one in before) else joins).append(k)
+            is_ring = any(tie[0] in one and tie[1] in one for one in before)
+            (joins if judge.is_joining(tie) and not is_ring else others).append(k)
     return joins, others
 
 
@@ -203,7 +236,7 @@ def untied(told, best, worths, lines):
     for g, fits in enumerate(best):
         if g not in worths:
             i = fits.members[0]
-            told.hold(len(fits.members) == 1 and all(i not in tie[:2] for tie in told.ties), f"group {g} is not told")
+            told.hold(len(fits.members) == 1 and all(judge.home(tie) != i for tie in told.ties), f"group {g} is not told")
             weight, (low, high) = told.job.counts[i].weight, told.bounds[i]
             worths[g] = weight * (low if weight < 0 else high)
             worth, many = worth + worths[g], many + 1
@@ -252,7 +285,7 @@ def no_fit(told, count, tried=None):
     title(told, groups.index(members), members, told.lines[1])
     told.hold(told.lines[0] == f"no fit at count {count}, the lowest of the first group without a fit-out.", "the first line")
     rows = [part(told, line) for line in told.lines[3:] if line.startswith("  ")]
-    told.hold(all(row[1][0] in members if row[0] == "tie" else row[1] in members for row in rows), "a row of another group")
+    told.hold(all((judge.home(row[1]) if row[0] == "tie" else row[1]) in members for row in rows), "a row of another group")
     told.hold(not kept(told, members, rows), "the named rows have a fit-out")
     for row in rows[:: max(1, len(rows) // (tried or len(rows)))]:
         told.hold(kept(told, members, [other for other in rows if other != row]), f"{row} can be spared")
@@ -269,7 +302,7 @@ def part(told, line):
     if found:
         text_line, k, left, side = found.groups()
         rows = [told.ties[int(k)]] if k else [(t.left, t.right, t.a, t.b, t.c) for t in told.job.ties if t.line == int(text_line)]
-        told.hold(rows[0][4] == value(side) and f"{told.job.name(rows[0][0])}" in left, f"another tie stands at {line}")
+        told.hold(rows[0][4] == value(side) and told.is_left_side(left, rows[0]), f"another tie stands at {line}")
         return "tie", rows[0]
     name, side, bound = re.match(rf"  (?:line \d+: )?(.*) (at least|at most) ({NUMBER})$", line).groups()
     kind = "low" if side == "at least" else "high"
@@ -291,7 +324,7 @@ def kept(told, members, rows, extra=()):
 
 def cure(told, members, rows, line):
     """What the last line says of leaving out one row of the whole group."""
-    ties = [("tie", tie) for tie in told.ties if tie[0] in members]
+    ties = [("tie", tie) for tie in told.ties if judge.home(tie) in members]
     every = ties + [(kind, i) for i in members for kind in ("low", "high")]
     cured = [row for row in rows if kept(told, members, without(every, row))]
     if line in ("Without it the group has a fit-out.", "Without any one of them the group has a fit-out."):
@@ -318,33 +351,33 @@ def contradiction(told, members, rows, line):
     if line == "The low is above the high.":
         told.hold(not ties and len(rows) == 2 and rows[0][1] == rows[1][1], line)
         return
-    found = re.match(rf"With the others (.*) is (at most|at least) ({NUMBER})\.$", line)
-    if found and found.group(1) in told.number:
-        bound_line(told, members, rows, told.number[found.group(1)], found.group(2) == "at most", value(found.group(3)))
+    if len(ties) < len(rows):
+        name, end, number = re.match(rf"With the others (.*) is (at most |at least |)({NUMBER})\.$", line).groups()
+        bound_line(told, members, rows, told.number[name], end, value(number))
         return
     found = re.match(r"Together the ties make (.*) = (.*), which is not whole\.$", line)
     if found:
         broken_line(told, ties, told.number[found.group(1)], fraction(found.group(2)))
         return
-    told.hold(len(ties) == len(rows), f"a line on ties alone: {line}")
     tie_line(told, members, rows, line)
 
 
-def bound_line(told, members, rows, i, is_most, end):
-    """What the others make of a count: not more, just so much, and past the bound that is named."""
+def bound_line(told, members, rows, i, end, number):
+    """What the others make of a count: not more, or not less, just so much, and past the bound that is named."""
+    is_most = number < told.bounds[i][0]
     bound = ("low" if is_most else "high", i)
-    told.hold(bound in rows, "a bound that is not named")
+    told.hold(bound in rows and (is_most or number > told.bounds[i][1]), f"{number} breaks no bound that is named")
     others = [row for row in rows if row != bound]
-    past = (i, end + 1, LIMIT) if is_most else (i, -LIMIT, end - 1)
-    told.hold(not kept(told, members, others, [past]) and kept(told, members, others, [(i, end, end)]), f"the others do not make it {end}")
-    told.hold(end < told.bounds[i][0] if is_most else end > told.bounds[i][1], f"{end} breaks no bound")
+    told.hold(end != ("at least " if is_most else "at most "), "the wrong end")
+    more, less = (kept(told, members, others, [(i, *ends)]) for ends in ((number + 1, LIMIT), (-LIMIT, number - 1)))
+    told.hold(kept(told, members, others, [(i, number, number)]), f"the others do not let it be {number}")
+    told.hold(not (more if is_most else less) and (more or less) == bool(end), f"the others do not make it {end}{number}")
 
 
 def broken_line(told, ties, i, made):
-    lines, left_over = judge.lines_of(sorted({i for tie in ties for i in tie[:2]}), ties)
-    left, right, a, b, c = left_over[0]
-    slope, start = (a * lines[left][k] + b * lines[right][k] for k in (1, 0))
-    told.hold(lines[i][0] + lines[i][1] * (c - start) / slope == made and made.denominator > 1, f"the ties do not make it {made}")
+    lines, (tie, *_) = judge.lines_of(sorted({i for tie in ties for i in says(tie)}), ties)
+    start, slope = judge.along(tie, lines)
+    told.hold(lines[i][0] + lines[i][1] * (tie[4] - start) / slope == made and made.denominator > 1, f"the ties do not make it {made}")
 
 
 def tie_line(told, members, rows, line):
@@ -356,11 +389,15 @@ def tie_line(told, members, rows, line):
 
     front = "With the others " if len(rows) > 1 else ""
     subject, end = re.match(rf"{front}(.*?) (is .*|can be .*)\.$", line).groups()
-    told.hold(told.job.name(left) in subject and told.job.name(right) in subject, f"another tie: {line}")
     numbers = [value(found) for found in re.findall(NUMBER, end)]
+    if end.startswith("is 0, and "):  # with every term, as it is written
+        terms = [(a, left)] if left == right and b == 0 else [(a, left), (b, right)]
+        told.hold(len(rows) == 1 and told.terms(subject) == terms and not added(terms) and numbers == [0, c] and c != 0, line)
+        return
+    told.hold(told.is_left_side(subject, rows[-1][1]), f"another tie: {line}")
     if end.startswith("is a multiple of"):
-        factor = numbers[0]
-        told.hold(len(rows) == 1 and a % factor == b % factor == 0 and c == numbers[1] and c % factor != 0, line)
+        factor, coefficients = numbers[0], [coefficient for coefficient, _ in told.terms(subject)]
+        told.hold(len(rows) == 1 and not any(one % factor for one in coefficients) and c == numbers[1] and c % factor != 0, line)
     elif end.startswith("can be"):
         low, high = numbers
         between = range(low + 1, high) if high - low < 100 else [low + 1, low + 2, c, (low + high) // 2, high - 1]
@@ -396,7 +433,9 @@ def refused(told, reason, row):
         elif reason == 7:
             tie = told.job.ties[row]
             there, limit = {"a": (tie.a, 1_000_000), "b": (tie.b, 1_000_000), "c": (tie.c, 2 * 10**15)}[field.group(4)[-1]]
-            told.hold(tie.line == int(field.group(3)) and there == value(field.group(5)) and (there == 0 or abs(there) > limit), line)
+            told.hold(tie.line == int(field.group(3)) and there == value(field.group(5)), line)
+            told.hold(abs(there) > limit and line.endswith(f"{-limit:,} to {limit:,}."), line)
         else:
             tie = told.job.ties[row]
-            told.hold(re.match(rf"  line {tie.line}: (there is no count c\d+|the left and the right count are the same)", line), line)
+            missing = re.match(rf"  line {tie.line}: there is no count c(\d+): ", line)
+            told.hold(missing and int(missing.group(1)) in (tie.left, tie.right) and int(missing.group(1)) >= len(told.job.counts), line)

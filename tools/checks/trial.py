@@ -7,6 +7,8 @@ import sys
 
 from fitout import source
 
+from . import random_jobs
+
 ROOT = pathlib.Path(__file__).resolve().parents[2]
 NAMES = ("cards", "extensions", "ringing units", "cords", "and", "let", "true", "E9", "Läutewerke", "trunk lines B2", "a_b", "früh")
 
@@ -70,15 +72,9 @@ def small_job(chance):
         lines.append(f"count {name} {low}..{high} weight {weight}")
     called = [name or f"c{i}" for i, name in enumerate(names)]
     for _ in range(chance.randint(1, 5)):
-        lines.append(tie(chance, called, numbers, *chance.sample(range(n), 2), 4, 0.08))
+        line = random_jobs.fixing_line if chance.random() < 0.3 else random_jobs.tie_line
+        lines.append(line(chance, called, numbers, 4, 0.08))
     return "\n".join(lines) + "\n"
-
-
-def tie(chance, called, numbers, left, right, largest, wrong=0.0):
-    """A tie that the numbers keep, but for the share of those that are wrong."""
-    a, b = (chance.choice((-1, 1)) * chance.randint(1, largest) for _ in range(2))
-    side = a * numbers[left] + b * numbers[right] + (chance.random() < wrong) * chance.randint(-3, 3)
-    return f"tie {a} {called[left]} + {b} {called[right]} = {side}"
 
 
 def small_jobs(seed, many):
@@ -89,8 +85,8 @@ def small_jobs(seed, many):
 # ---- larger ones, by how they hang together
 
 
-def joined(n, pairs, largest=3, seed=1, wrong=0.0, spread=50):
-    """A job of n counts with a tie for each pair."""
+def joined(n, pairs, largest=3, seed=1, wrong=0.0, spread=50, fixing=0):
+    """A job of n counts with a tie for each pair, and some that join nothing."""
     chance = random.Random(seed)
     numbers = [chance.randint(-spread, spread) for _ in range(n)]
     names = [f"{chance.choice(NAMES)} {chr(97 + i % 26)}{i}" if chance.random() < 0.3 else "" for i in range(n)]
@@ -99,7 +95,8 @@ def joined(n, pairs, largest=3, seed=1, wrong=0.0, spread=50):
         low, high = number - chance.randint(0, 9 * spread), number + chance.randint(0, 9 * spread)
         lines.append(f"count {name} {low}..{high} weight {chance.randint(-99, 99)}")
     called = [name or f"c{i}" for i, name in enumerate(names)]
-    lines += [tie(chance, called, numbers, left, right, largest, wrong) for left, right in pairs]
+    lines += [random_jobs.tie_line(chance, called, numbers, largest, wrong, pair) for pair in pairs]
+    lines += [random_jobs.fixing_line(chance, called, numbers, largest, wrong) for _ in range(fixing)]
     return "\n".join(lines) + "\n"
 
 

@@ -16,9 +16,10 @@ def nearness(job, ties, start):
     """A sorting key: how far a part is from a count, by the number of ties between; the ties of the shortest ways first."""
     neighbours = {}
     for part in ties:
-        tie = job.ties[part.index]
-        neighbours.setdefault(tie.left, []).append((tie.right, part))
-        neighbours.setdefault(tie.right, []).append((tie.left, part))
+        first, *others = job.ties[part.index].counts()
+        for other in others:
+            neighbours.setdefault(first, []).append((other, part))
+            neighbours.setdefault(other, []).append((first, part))
     far, ways, waiting = {start: 0}, set(), [start]
     for here in waiting:
         for there, part in neighbours.get(here, []):
@@ -29,8 +30,7 @@ def nearness(job, ties, start):
 
     def key(part):
         if part.kind == "tie":
-            tie = job.ties[part.index]
-            return max(far[tie.left], far[tie.right]), part not in ways, part.index
+            return max(far[i] for i in job.ties[part.index].counts()), part not in ways, part.index
         return far[part.index], 0, part.index
 
     return key
@@ -48,7 +48,7 @@ class Search:
         """A smallest conflict, ties first."""
         every, ties = self.ties + self.bounds, self.job.ties
         some = self.necessary(every)
-        key = nearness(self.job, self.ties, ties[some.index].left if some.kind == "tie" else some.index)
+        key = nearness(self.job, self.ties, ties[some.index].counts()[0] if some.kind == "tie" else some.index)
         # what stands first is kept rather: so what is near is named, and not the long way round
         orders = sorted(every, key=key), sorted(self.ties, key=key) + sorted(self.bounds, key=key)
         found = min((self.smallest(order) for order in orders), key=len)

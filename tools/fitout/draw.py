@@ -1,7 +1,7 @@
 """A picture of how a job hangs together, as SVG: counts by group, ties between them, and the bounds that bind or contradict each other.
 
-Every count is a <g class="count" id="count-3">, every tie a <g class="tie joins" id="tie-5">; bounds that are marked have the class
-binding or conflict. What there is no room for stands in a <title>, which a viewer shows at the pointer.
+Every count is a <g class="count" id="count-3">, every tie a <g class="tie joins" id="tie-5">, with its kind on the map; bounds that are
+marked have the class binding or conflict. What there is no room for stands in a <title>, which a viewer shows at the pointer.
 """
 
 from xml.sax.saxutils import escape, quoteattr
@@ -27,8 +27,7 @@ text { font-family: sans-serif; fill: #1d2733; }
 .joins path { stroke: #2f4a75; stroke-width: 2; shape-rendering: crispEdges; }
 .ring path { stroke: #8a3ea8; stroke-width: 1.5; stroke-dasharray: 6 3; }
 .many .ring path { stroke-width: 0.8; stroke-dasharray: 5 2; stroke-opacity: 0.5; }
-.fixes path { fill: #2f4a75; }
-.fixes.conflict path { fill: #c8102e; }
+.fixes path { fill: #2f4a75; stroke: #2f4a75; stroke-width: 1; shape-rendering: crispEdges; }
 .label { fill: #2f4a75; }
 .label.ring { fill: #7a2f98; }
 .back { fill: #f6f8fa; }
@@ -37,6 +36,7 @@ text { font-family: sans-serif; fill: #1d2733; }
 .conflict .mark { fill: #c8102e; stroke: #c8102e; }
 .conflict text { font-weight: bold; fill: #fff; }
 .tie.conflict path { stroke: #c8102e; stroke-width: 3; stroke-opacity: 1; }
+.fixes.conflict path { fill: #c8102e; stroke-width: 2; }
 text.conflict { fill: #c8102e; }
 """
 
@@ -112,7 +112,7 @@ class Picture:
             self.mark, self.conflict = "conflict", conflict.find(job, answer, tell)
             self.bounds = {(part.index, part.kind) for part in self.conflict if part.kind != "tie"}
             self.ties = {part.index for part in self.conflict if part.kind == "tie"}
-            self.hot = {i for i, _ in self.bounds} | {i for k in self.ties for i in (job.ties[k].left, job.ties[k].right)}
+            self.hot = {i for i, _ in self.bounds} | {i for k in self.ties for i in job.ties[k].counts()}
         self.width = box_width(job, answer)
         self.untied = [i for g in range(many) for i in self.map.members(g) if not self.map.ties(g)]
         self.tied = [g for g in range(many) if self.map.ties(g)]
@@ -159,11 +159,15 @@ class Picture:
         return self.map.kinds[k] + (" conflict" if k in self.ties else "")
 
     def tie_title(self, k):
-        kind = {"joins": "joins", "ring": "closes a ring"}.get(self.map.kinds[k], self.map.kinds[k])
-        return title(f"{tie_place(self.job, k)}: {equation(self.job, self.job.ties[k])} ({kind})")
+        tie = self.job.ties[k]
+        fixes = f"fixes {self.job.name(tie.counts()[0])}" if tie.terms() else "never holds" if tie.c else "always holds"
+        kind = {"joins": "joins", "ring": "closes a ring", "fixes": fixes}[self.map.kinds[k]]
+        return title(f"{tie_place(self.job, k)}: {equation(self.job, tie)} ({kind})")
 
     def tie(self, k, path):
-        ends = {"data_left": self.job.ties[k].left, "data_right": self.job.ties[k].right}
+        """A tie's line, from its left count to its right one, or at the one count to whose group it belongs."""
+        counts = self.job.ties[k].counts()
+        ends = {"data_left": counts[0], "data_right": counts[-1]}
         return element("g", self.tie_title(k) + element("path", d=path), class_=f"tie {self.tie_class(k)}", id=f"tie-{k}", **ends)
 
     def label(self, label):
@@ -172,14 +176,6 @@ class Picture:
         back = element("rect", x=label.x - 2, y=label.y - 10, width=width + 4, height=13, class_="back")
         class_ = f"label {self.tie_class(label.tie)}"
         return back + element("text", words, x=label.x, y=label.y, font_size=SMALL, class_=class_, data_tie=label.tie)
-
-    def fixed(self, k, tree):
-        """A tie on one count: a mark at the right of its box."""
-        i = self.job.ties[k].left
-        x, y = tree.boxes[i]
-        alike = [other for other in tree.fixes if self.job.ties[other].left == i]
-        top = y + 5 + alike.index(k) % 3 * 10
-        return self.tie(k, f"M{x + self.width:g} {top:g}H{x + self.width + 8:g}V{top + 8:g}H{x + self.width:g}")
 
     # ---- a group
 
@@ -209,13 +205,12 @@ class Picture:
         first, second = self.group_title(group)
         failed = self.answer.kind != "planned" and group == self.map.groups[self.answer.count]
         width = max(tree.width, head_width(first, second))
-        order = {"ring": 0, "joins": 1}
+        order = {"ring": 0, "joins": 1, "fixes": 2}
         lines = sorted(tree.lines, key=lambda k: (k in self.ties, order[self.map.kinds[k]], k))
         parts = [element("rect", width=width, height=tree.height, rx=8, class_="frame"), text(first, PAD, 21, 13, "title")]
         parts.append(text(second, PAD, 37, FIGURE, "conflict" if failed else "caption") if second else "")
         parts += [self.tie(k, tree.lines[k]) for k in lines]
         parts += [self.count(i, x, y) for i, (x, y) in tree.boxes.items()]
-        parts += [self.fixed(k, tree) for k in tree.fixes]
         parts += [self.label(label) for label in tree.labels]
         class_ = "group many" if tree.has_many else "group"
         return (width, tree.height), "\n".join(parts), {"id": f"group-{group}", "class_": class_}
@@ -229,7 +224,7 @@ class Picture:
         return f"group {group}: " + ("one fit-out" if family.fits == 1 else f"{number(family.fits)} fit-outs, gain {number(family.gain)}")
 
     def untied_group(self):
-        """The frame with the counts that no tie names."""
+        """The frame with the untied counts."""
         captions = {i: self.caption(i) for i in self.untied}
         many = len(self.untied) > 1
         first = f"{plural(len(self.untied), 'untied count')}" + (", each a group of its own" if many else "")
@@ -271,7 +266,8 @@ class Picture:
         if "ring" in kinds:
             samples.append((element("g", line, class_="tie ring"), "a tie that closes a ring"))
         if "fixes" in kinds:
-            samples.append((element("g", element("path", d="M16 -8H24V0H16"), class_="tie fixes"), "a tie on one count"))
+            pin = element("path", d="M10 -4H23V-7.5H30V-0.5H23V-4")
+            samples.append((element("g", pin, class_="tie fixes"), "a tie on one count"))
         if self.bounds:
             mark = element("rect", x=2, y=-12, width=36, height=16, rx=4, class_="mark")
             mark += text("≤ 9", 20, 0, FIGURE, text_anchor="middle")

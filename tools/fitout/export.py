@@ -45,11 +45,12 @@ def lp_sum(terms):
 
 
 def lp_ties(job, names):
+    """The rows of the ties: each names a count, with the coefficient 0 where the tie says nothing of any."""
     lines = []
     for k, tie in enumerate(job.ties):
         if tie.line:
             lines.append(f"\\ {tie_place(job, k)}: {equation(job, tie)}")
-        lines += wrapped(f" tie{k}:", lp_sum([(tie.a, names[tie.left]), (tie.b, names[tie.right])]), f" = {tie.c}")
+        lines += wrapped(f" tie{k}:", lp_sum([(tie.terms().get(i, 0), names[i]) for i in tie.counts()]), f" = {tie.c}")
     return lines
 
 
@@ -95,12 +96,12 @@ def smt_term(coefficient, name):
     return f"(* {smt_number(coefficient)} {name})"
 
 
-def smt_worth(job, names):
-    """The sum of weight * number, as lines."""
-    terms = [smt_term(count.weight, name) for count, name in zip(job.counts, names) if count.weight]
-    if len(terms) < 2:
-        return [f"(maximize {''.join(terms) or 0})"]
-    return wrapped("(maximize (+", terms, "))")
+def smt_sum(head, terms, tail):
+    """A sum of (coefficient, name) between a head and a tail, as lines. A sum has two terms or more: fewer stand by themselves."""
+    words = [smt_term(coefficient, name) for coefficient, name in terms]
+    if len(words) < 2:
+        return [f"{head} {''.join(words) or 0}{tail}"]
+    return wrapped(f"{head} (+", words, f"){tail}")
 
 
 def smt(job, answer):
@@ -112,6 +113,7 @@ def smt(job, answer):
     for i, count in enumerate(job.counts):
         lines.append(f"(assert (<= {smt_number(count.low)} {names[i]} {smt_number(count.high)})) ; {count_place(job, i)}")
     for k, tie in enumerate(job.ties):
-        left, right = smt_term(tie.a, names[tie.left]), smt_term(tie.b, names[tie.right])
-        lines.append(f"(assert (= (+ {left} {right}) {smt_number(tie.c)})) ; {tie_place(job, k)}")
-    return "\n".join([*lines, *smt_worth(job, names), "(check-sat)", "(get-objectives)", ""])
+        terms = [(coefficient, names[i]) for i, coefficient in tie.terms().items()]
+        lines += smt_sum("(assert (=", terms, f" {smt_number(tie.c)})) ; {tie_place(job, k)}")
+    weights = [(count.weight, name) for count, name in zip(job.counts, names) if count.weight]
+    return "\n".join([*lines, *smt_sum("(maximize", weights, ")"), "(check-sat)", "(get-objectives)", ""])

@@ -46,11 +46,11 @@ def stepped(answer, members, steps, direction):
 
 
 class Lone(NamedTuple):
-    """What leaves a group only one fit-out: bounds on both sides, or a tie that closes a ring, or the ties that join it."""
+    """What leaves a group only one fit-out: bounds on both sides; a tie that closes a ring or fixes a count; or the ties that join it."""
 
     more: tuple = ()
     less: tuple = ()
-    ring: int | None = None
+    tie: int | None = None
 
 
 def lone(job, answer, group):
@@ -60,9 +60,9 @@ def lone(job, answer, group):
         return Lone()
     steps = {i: row.step for i, row in rows.items()}
     for part in alone.others:
-        tie = job.ties[part.index]
-        if tie.a * steps[tie.left] + tie.b * steps[tie.right] and alone.family([*alone.joins, part])[0] == 1:
-            return Lone(ring=part.index)
+        slope = sum(coefficient * steps[i] for i, coefficient in job.ties[part.index].terms().items())
+        if slope and alone.family([*alone.joins, part])[0] == 1:
+            return Lone(tie=part.index)
     more, less = (tuple(beyond(job, stepped(answer, alone.counts, steps, direction))) for direction in (1, -1))
     return Lone(more, less)
 
@@ -145,13 +145,20 @@ def why_chosen(job, answer, group, members):
     return lines
 
 
+def what_it_does(job, answer, k):
+    """Of a tie that does not join: the ring that it closes, or the count that it fixes."""
+    if answer.map.kinds[k] == "ring":
+        return f"closes a ring with {tie_places(job, ring_ties(job, answer.map, k))}"
+    (count,) = job.ties[k].counts()
+    return f"fixes {job.name(count)} at {number(answer.counts[count].number)}"
+
+
 def why_only(job, answer, group):
-    """Of a group with one fit-out: which ring or which bounds leave only it."""
+    """Of a group with one fit-out: which tie or which bounds leave only it."""
     why, only = lone(job, answer, group), numbers(job, answer, answer.map.members(group))
-    if why.ring is not None:
-        ring = tie_places(job, ring_ties(job, answer.map, why.ring))
-        tie = f"The tie {equation(job, job.ties[why.ring])} ({tie_place(job, why.ring)})"
-        return [f"One fit-out: {only}.", f"{tie} closes a ring with {ring}, and leaves only this one."]
+    if why.tie is not None:
+        tie = f"The tie {equation(job, job.ties[why.tie])} ({tie_place(job, why.tie)})"
+        return [f"One fit-out: {only}.", f"{tie} {what_it_does(job, answer, why.tie)}, and leaves only this one."]
     if not why.more and not why.less:
         return [f"One fit-out: {only}.", "Within ±1,000,000,000 the ties leave only this one."]
     return [f"One fit-out: {only}.", f"One more {would_put(job, why.more)}; one less {would_put(job, why.less)}."]

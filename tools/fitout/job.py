@@ -24,7 +24,7 @@ class Count(NamedTuple):
 
 
 class Tie(NamedTuple):
-    """a * left + b * right = c"""
+    """a * left + b * right = c. Left and right may be one count, and a and b may be 0."""
 
     left: int
     right: int
@@ -32,6 +32,15 @@ class Tie(NamedTuple):
     b: int
     c: int
     line: int = 0
+
+    def terms(self):
+        """What it says, as coefficients by count: of a count that is named twice the sum of the two, and none that is 0."""
+        sums = {self.left: self.a + self.b} if self.left == self.right else {self.left: self.a, self.right: self.b}
+        return {count: coefficient for count, coefficient in sums.items() if coefficient}
+
+    def counts(self):
+        """The counts that it is about: the two that it joins, or the one to whose group it belongs."""
+        return list(self.terms()) or [self.left]
 
 
 class Job(NamedTuple):
@@ -80,12 +89,8 @@ def unpacked(data):
 
 WEIGHTS = range(-WEIGHT_LIMIT, WEIGHT_LIMIT + 1)
 NUMBERS = range(-NUMBER_LIMIT, NUMBER_LIMIT + 1)
+COEFFICIENTS = range(-COEFFICIENT_LIMIT, COEFFICIENT_LIMIT + 1)
 SIDES = range(-SIDE_LIMIT, SIDE_LIMIT + 1)
-COEFFICIENTS = f"1 to {COEFFICIENT_LIMIT:,} in size, with either sign"
-
-
-def is_coefficient(value):
-    return 1 <= abs(value) <= COEFFICIENT_LIMIT
 
 
 class Breach(NamedTuple):
@@ -95,29 +100,25 @@ class Breach(NamedTuple):
     words: str
 
 
-def outside(reason, what, value, allowed):
-    return Breach(reason, f"{what} is {value:,}, and may be {allowed}")
-
-
 def range_text(allowed):
     return f"{allowed[0]:,} to {allowed[-1]:,}"
 
 
+def outside(reason, fields):
+    """Those of the fields, each with what it is and what it may be, that are out of their range."""
+    wrong = [(what, value, allowed) for what, value, allowed in fields if value not in allowed]
+    return [Breach(reason, f"{what} is {value:,}, and may be {range_text(allowed)}") for what, value, allowed in wrong]
+
+
 def count_breaches(count):
-    fields = [("the low", count.low, NUMBERS), ("the high", count.high, NUMBERS), ("the weight", count.weight, WEIGHTS)]
-    return [outside(5, what, value, range_text(allowed)) for what, value, allowed in fields if value not in allowed]
+    return outside(5, [("the low", count.low, NUMBERS), ("the high", count.high, NUMBERS), ("the weight", count.weight, WEIGHTS)])
 
 
 def tie_breaches(job, tie):
     """Of one tie of a job: those of reason 6 before those of 7."""
     n = len(job.counts)
     there = f"counts are c0 to c{n - 1}" if n > 1 else "there is c0 alone" if n else "the job has no counts"
-    found = [Breach(6, f"there is no count c{count}: {there}") for count in dict.fromkeys((tie.left, tie.right)) if count >= n]
-    if tie.left == tie.right:
-        found.append(Breach(6, f"the left and the right count are the same, {job.name(tie.left)}, and have to be two"))
+    missing = [Breach(6, f"there is no count c{count}: {there}") for count in dict.fromkeys((tie.left, tie.right)) if count >= n]
     coefficients = [("a", tie.a, tie.left), ("b", tie.b, tie.right)]
-    found += [outside(7, f"the coefficient of {job.name(count)}, {field},", value, COEFFICIENTS)
-              for field, value, count in coefficients if not is_coefficient(value)]  # fmt: skip
-    if tie.c not in SIDES:
-        found.append(outside(7, "the right-hand side, c,", tie.c, range_text(SIDES)))
-    return found
+    fields = [(f"the coefficient of {job.name(count)}, {field},", value, COEFFICIENTS) for field, value, count in coefficients]
+    return missing + outside(7, [*fields, ("the right-hand side, c,", tie.c, SIDES)])

@@ -3,7 +3,8 @@
 The joins of a group make a tree. It is laid out as an outline: a row for each count, below the count that joins it, and a level further
 in; but of each count's subtrees the largest comes last and stays on its level, so that there are few levels and a chain is straight.
 A long outline is broken into columns, and the lines to rows of a later column run through the space between. Rings leave the boxes
-sideways: beside their column, or through the spaces between columns and rows. So no line runs through a box.
+sideways: beside their column, or through the spaces between columns and rows. So no line runs through a box. A tie that fixes one count
+is a pin at the right of its box, above the rings that leave it there.
 """
 
 import math
@@ -16,6 +17,10 @@ INDENT = 26  # of a level
 TRUNK = 12  # where a line goes down, from the left edge of its box
 LANE = 6  # between lines side by side
 PAD = 16  # inside a frame
+PIN = 14  # how far a pin stands out
+PIN_HEIGHT = 7  # of its head
+PIN_PITCH = 13  # between pins that have their equations beside them
+WIDEST_PIN = 180  # of these equations
 SPACE = 22  # between frames
 SMALL = 10  # letters of equations
 MANY_RINGS = 40  # in a group: from here on they are thin, and have no equations beside them
@@ -139,21 +144,23 @@ class Tree:
     def __init__(self, job, the_map, group, box_width, labels, head):
         of_kind = {kind: [k for k in the_map.ties(group) if the_map.kinds[k] == kind] for kind in ("joins", "ring", "fixes")}
         self.job, self.box_width, self.texts, self.head = job, box_width, labels, head
-        self.rings, self.fixes = of_kind["ring"], of_kind["fixes"]
+        self.rings = of_kind["ring"]
         self.has_many = len(self.rings) > MANY_RINGS
+        self.pins = Pins(job, of_kind["fixes"], {i for k in self.rings for i in job.ties[k].counts()}, labels)
         self.rows = outline(job, the_map.members(group), of_kind["joins"])
         self.row = {row.count: row for row in self.rows}
         self.measure()
         self.boxes = {row.count: (self.x(row), self.y(row)) for row in self.rows}
         self.labels = []
         self.lines = {row.tie: self.join(row) for row in self.rows if row.tie is not None}
+        self.lines |= {k: self.pin(row, k) for row in self.rows for k in self.pins.at(row.count)}
         self.lines |= Rings(self).lines() if self.rings else {}
 
     def measure(self):
         """The widths of the columns and of the spaces beside them, and the size of the frame."""
         needs = {k: text_width(fitting(texts, WIDEST_LABEL), SMALL) for k, texts in self.texts.items()}
         below = [(row, TRUNK + 7 + needs[row.tie] if row.tie is not None else 0) for row in self.rows]
-        self.column_width = max(row.level * INDENT + max(self.box_width, need) for row, need in below)
+        self.column_width = max(row.level * INDENT + max(self.box_width + self.pins.width(row.count), need) for row, need in below)
         rings = max((needs[k] for k in self.rings), default=0)
         self.ring_width = 0 if not self.rings else 80 if self.has_many else max(64, rings + 12)
         self.breaks = columns(self.rows, self.column_width + self.ring_width + 30)
@@ -201,6 +208,50 @@ class Tree:
             self.labels.append(Label(row.tie, text, start, self.y(row) - 5))
         return path
 
+    def pin(self, row, k):
+        """The line to the head of a pin, and around it; and the equation behind it."""
+        x, y = self.x(row) + self.box_width, self.y(row) + self.pins.down(row.count, k)
+        half = min(PIN_HEIGHT, self.pins.pitch(row.count)) / 2
+        text = self.pins.text(row.count, k)
+        if text:
+            self.labels.append(Label(k, text, x + PIN + 4, y + 3.5))
+        head = x + PIN - PIN_HEIGHT
+        return f"M{x:g} {y:.2f}H{head:g}V{y - half:.2f}H{x + PIN:g}V{y + half:.2f}H{head:g}V{y:.2f}"
+
+
+class Pins:
+    """The ties that fix one count, down the right edge of its box. ringed: the counts that have rings, which need some of the edge."""
+
+    def __init__(self, job, ties, ringed, texts):
+        self.ringed, self.texts, self.ties = ringed, texts, {}
+        for k in ties:
+            self.ties.setdefault(job.ties[k].counts()[0], []).append(k)
+
+    def at(self, count):
+        return self.ties.get(count, [])
+
+    def pitch(self, count):
+        """From one pin of a count to the next."""
+        return min(PIN_PITCH, (BOX - 12 if count in self.ringed else BOX) / max(1, len(self.at(count))))
+
+    def height(self, count):
+        """How much of the edge they take."""
+        return self.pitch(count) * len(self.at(count))
+
+    def down(self, count, k):
+        """How far down the box a pin is: at the top where there are rings, else in the middle."""
+        top = 0 if count in self.ringed else (BOX - self.height(count)) / 2
+        return top + self.pitch(count) * (self.at(count).index(k) + 0.5)
+
+    def text(self, count, k):
+        """The equation, where there is room between pins; or else nothing."""
+        return fitting(self.texts[k], WIDEST_PIN) if self.pitch(count) > SMALL + 2 else ""
+
+    def width(self, count):
+        """How far they stand out, with their equations."""
+        texts = [self.text(count, k) for k in self.at(count)]
+        return max((PIN + (6 + text_width(text, SMALL) if text else 0) for text in texts), default=0)
+
 
 # ---- rings
 
@@ -247,8 +298,9 @@ class Rings:
                 sides.setdefault((first.count, "right"), []).append((1, self.tree.y(second), k, 0))
                 sides.setdefault((second.count, "left"), []).append((1, self.tree.y(first), k, 1))
         points = {}
-        for (_, side), touching in sides.items():
-            begin, room = (4, BOX - 8) if side == "right" else (BOX / 2 + 4, BOX / 2 - 8)  # a join arrives on the left, half-way down
+        for (count, side), touching in sides.items():
+            top = self.tree.pins.height(count) if side == "right" else BOX / 2  # a join arrives on the left, half-way down
+            begin, room = top + 4, BOX - top - 8
             for place, (_, _, k, end) in enumerate(sorted(touching)):
                 points[k, end] = begin + room * (place + 1) / (len(touching) + 1)
         return points

@@ -63,7 +63,9 @@ class Group:
         return packed([rows[form] for rows, form in zip(self.count_rows, forms)], ties)
 
     def tie_row(self, tie):
-        return tie_row(tie._replace(left=self.place[tie.left], right=self.place[tie.right]))
+        """A tie of the group, in its numbers. A count of another group has the coefficient 0, and one of the group stands in its place."""
+        own = self.place[tie.counts()[0]]
+        return tie_row(tie._replace(left=self.place.get(tie.left, own), right=self.place.get(tie.right, own)))
 
     def has_fit(self, parts, extra=None):
         return planner.has_fit(self.packed(parts, extra))

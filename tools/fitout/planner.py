@@ -26,7 +26,7 @@ class Family(NamedTuple):
 
 
 class Map:
-    """Of each count its group, of each tie its group and its kind: joins or ring."""
+    """Of each count its group, of each tie its group and its kind: joins, ring or fixes."""
 
     def __init__(self):
         self.groups, self.tie_groups, self.kinds = [], [], []

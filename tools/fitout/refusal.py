@@ -12,7 +12,7 @@ REASONS = {
     3: "there are too many counts or ties",
     4: "the header does not describe these bytes",
     5: "a count's low, high or weight is out of range",
-    6: "a tie does not name two counts of the job",
+    6: "a tie names a count that is not there",
     7: "a tie's coefficient or right-hand side is out of range",
     8: "the area for the sheet is too short",
     10: "the area for the map is too short",

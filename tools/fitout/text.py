@@ -8,15 +8,17 @@ A statement for each count and for each tie, on a line of its own or with ; betw
     count cards 6..20 weight -30
     count extensions 0..200 weight 4
     tie 16 cards - extensions = 0        or   tie extensions = 16 cards
+    tie 3 cards = 12
 
 Counts are numbered from 0 in the order of their statements, and can be called by number too: c0, c1. A name has one word or several
 (ringing units): letters, digits and _, a letter first. A weight not given is 0. Several counts or ties can share a statement, with a
 comma between them, and counts alike can share their bounds: count cards, cords 0..9, spares 2..5. With times N a count or tie stands
 for N rows, and a name gets their numbers: cards1, cards2.
 
-A tie names two counts, on either side of its =; plain numbers may stand there too: tie extensions = 16 cards + 4. A coefficient
-stands before its count: 16 cards, 16*cards, 16·cards. It is packed as it is read from the left: the count named first is the row's
-left count. Numbers are whole, and may be grouped by threes: 1,000,000 or 1_000_000.
+A tie has one term or two, on either side of its =; plain numbers may stand there too: tie extensions = 16 cards + 4. A coefficient
+stands before its count, 16 cards, 16*cards, 16·cards, and may be 0; of a count that is named twice they are added up. It is packed as it
+is read from the left: the count named first is the row's left count, and if it is the only one the row's right count too, with b = 0.
+Numbers are whole, and may be grouped by threes: 1,000,000 or 1_000_000.
 
 A fault stops the packing; all faults are told at once, each with its line. What the planner would refuse is packed all the same, with
 a warning: a number has to fit its field, and need not be in its range (docs/FORMAT.md).
@@ -57,7 +59,7 @@ class Field:
 LOW = Field("the low", -(2**31), 2**31 - 1, range_text(NUMBERS))
 HIGH = Field("the high", -(2**31), 2**31 - 1, range_text(NUMBERS))
 WEIGHT = Field("the weight", -(2**31), 2**31 - 1, range_text(WEIGHTS))
-COEFFICIENT = Field("a coefficient", -(2**31), 2**31 - 1, COEFFICIENTS)
+COEFFICIENT = Field("a coefficient", -(2**31), 2**31 - 1, range_text(COEFFICIENTS))
 SIDE = Field("the right-hand side", -(2**63), 2**63 - 1, range_text(SIDES))
 NUMBER = Field("the number of a count", 0, 2**16 - 1, f"0 to {MOST_COUNTS - 1}")
 TIMES = Field("times", 0, 2**16 - 1, "0 to 65,535")
@@ -256,6 +258,17 @@ def tie_of(statement):
     return sums, statement.number(TIMES) if statement.take("times") else 1
 
 
+def row_of(terms):
+    """Left, right, a and b of a tie's row: one term has its count on both sides, so that the row names no other."""
+    if not terms:
+        raise Fault("a tie names one count or two, as in 3 c0 = 12 or 16 c0 = c1, and this one names none")
+    if len(terms) > 2:
+        alike = " (add up those of one count)" if len({number for _, number, _ in terms}) < len(terms) else ""
+        raise Fault(f"a tie has at most two terms, and this one has {len(terms):,}: {listed(name for _, _, name in terms)}{alike}")
+    (a, left, _), (b, right, _) = terms if len(terms) == 2 else (terms[0], (0, *terms[0][1:]))
+    return left, right, a, b
+
+
 # ---- the whole text
 
 
@@ -342,20 +355,16 @@ class Reader:
         raise Fault(f"there is no count '{name}'", name, self.called)
 
     def tie(self, line, sums, times):
-        terms = [(coefficient, self.attempt(line, self.number, name)) for coefficient, name in sums.terms]
-        if any(number is None for _, number in terms):
+        terms = [(coefficient, self.attempt(line, self.number, name), name) for coefficient, name in sums.terms]
+        if any(number is None for _, number, _ in terms):
             return
-        if len(terms) != 2:
-            names = listed(name for _, name in sums.terms)
-            named = ("none", f"only {names}: its bounds can hold it, as LOW..HIGH", names)[min(len(terms), 2)]
-            raise Fault(f"a tie names two counts, and this one names {named}")
-        (a, left), (b, right) = terms
+        row = row_of(terms)
         if len(self.ties) + times > MOST_ROWS:
             raise Fault(f"more than {MOST_ROWS:,} ties do not fit the header's field")
-        self.ties += [Tie(left, right, a, b, sums.number, line)] * times
+        self.ties += [Tie(*row, sums.number, line)] * times
 
     def warn(self):
-        """What the planner would refuse, and a low above its high, which leaves no fit."""
+        """What the planner would refuse; a low above its high, and a tie that says nothing of any count."""
         job = Job(tuple(self.counts), tuple(self.ties))
         for what, rows, most in (("counts", self.counts, MOST_COUNTS), ("ties", self.ties, MOST_TIES)):
             if len(rows) > most:
@@ -368,6 +377,8 @@ class Reader:
         for tie in dict.fromkeys(self.ties):
             for breach in tie_breaches(job, tie):
                 self.warning(tie.line, breach.words, breach.reason)
+            if not tie.terms():
+                self.warning(tie.line, f"the tie says 0 = {tie.c:,}, which {'leaves no fit' if tie.c else 'always holds'}")
 
     def warning(self, line, words, reason=0):
         self.warnings[line, words + (f"; the planner refuses this, reason {reason}" if reason else "")] = True

@@ -35,9 +35,22 @@ def term(job, coefficient, count):
     return (-1 if coefficient < 0 else 1, job.name(count) if size == 1 else f"{number(size)} {job.name(count)}")
 
 
+def left_side(job, tie):
+    """What a tie says of its counts: 16 cards - extensions; of a count that is named twice the sum, and 0 where nothing remains."""
+    return signed_sum(term(job, coefficient, count) for count, coefficient in tie.terms().items())
+
+
 def equation(job, tie):
-    """A tie as its text has it: 16 cards - extensions = 0."""
-    return f"{signed_sum([term(job, tie.a, tie.left), term(job, tie.b, tie.right)])} = {number(tie.c)}"
+    """A tie as its text has it, brought together: 16 cards - extensions = 0."""
+    return f"{left_side(job, tie)} = {number(tie.c)}"
+
+
+def as_written(job, tie):
+    """The left side with every term of the row: 3 cards - 3 cards."""
+    terms = [(tie.a, tie.left), (tie.b, tie.right)]
+    if tie.left == tie.right and not tie.b:  # so a tie with one term is packed
+        terms.pop()
+    return signed_sum(term(job, coefficient, count) for coefficient, count in terms)
 
 
 def tie_place(job, k):
