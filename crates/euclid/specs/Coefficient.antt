@@ -1,4 +1,4 @@
--- "1 to 1,000,000 in size with either sign": what may be a coefficient.
+-- "1 to 1,000,000 in size with either sign": a nonzero coefficient, as carrying and the factor take it.
 use mathlib.Core.Bool.{Bool, not, _&&_}
 use mathlib.Core.Logic.{_≢_}
 use lib.IntN.{ℤ, pos}

@@ -4,7 +4,7 @@
 pub mod Remainders
 -- that the early end loses nothing, as statements
 pub mod EarlyEnd
--- a number of a coefficient's size
+-- a number of a nonzero coefficient's size
 pub mod Coefficient
 -- what the entry answers
 pub mod CommonDivisor

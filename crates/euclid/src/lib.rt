@@ -108,7 +108,7 @@ impl Factor {
     }
 }
 
-/// Is x of a coefficient's size: 1 to 1,000,000, with either sign?
+/// Is x of a nonzero coefficient's size: 1 to 1,000,000, with either sign?
 pub fn is_coefficient(x: i64) -> bool
     ensures { λ r. ⌜ r ≡ isCoefficient x ⌝ }
 {

@@ -54,7 +54,7 @@ membersAt r indices = record { first = r .first +ℤ r .step *ℤ indices .first
 abbrev pub through : Run → Run → Run
 through r indices = cond (eqb (indices .many) 0) empty (membersAt r indices)
 
--- ---- an equation inside a component (01's ring). At p = P .first + P .step·k and q = Q .first + Q .step·k it says
+-- ---- an equation inside a component (01's ring, or 02's tie on one count). At p = P .first + P .step·k and q = Q .first + Q .step·k it says
 -- coefficient·k = residual.
 abbrev pub coefficient : Form → Run → Run → ℤ
 coefficient e P Q = e .a *ℤ P .step +ℤ e .b *ℤ Q .step

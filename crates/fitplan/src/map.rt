@@ -70,7 +70,7 @@ fn rows(area: &Area, n: usize, all: usize, page: &mut Page, used: usize) -> usiz
     end
 }
 
-// Both kinds take 4 bytes, and stand one behind the other.
+// Rows of counts and of equations take 4 bytes, and stand one behind the other.
 fn row(area: &Area, n: usize, i: usize) -> Line
     requires { ⌜ i < 1280 ⌝ }
 {

@@ -126,10 +126,10 @@ module _ (j : Job) where
       solves-iff = (solved, solves)
 
   -- both variables of an equation in normal form are in its component
-  pub left-inside : (e : Equation) → lowest j (normal e .left) ≡ lowest j (home e)
+  left-inside : (e : Equation) → lowest j (normal e .left) ≡ lowest j (home e)
   left-inside e = ap (lowest j) (normal-home e)
 
-  pub right-inside : (e : Equation) → e ∈ j .equations → lowest j (normal e .right) ≡ lowest j (home e)
+  right-inside : (e : Equation) → e ∈ j .equations → lowest j (normal e .right) ≡ lowest j (home e)
   unfolding lowest
   right-inside =
       each-iff (λ e. lowest j (normal e .right) ≡ lowest j (home e)) (j .equations) noEquation .0

@@ -35,7 +35,7 @@ pub mod Solutions
 -- when each component has one (`some-iff`)
 pub mod Assembly
 -- equations that join no two counts, in document 02's words: they say coefficient · home = c (`value-is`); 0 = c with c not 0 leaves its
--- group without a fit (`no-fit`), and 0 = 0 leaves everything (`always`)
+-- group without a fit (`leaves-none`), and 0 = 0 leaves everything (`always`)
 pub mod UnaryEquations
 -- where the best stands among the solutions: `chosen-at`
 pub mod PlaceOfBest

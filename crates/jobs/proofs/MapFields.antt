@@ -19,7 +19,7 @@ use Rattle.jobs.specs.NormalForm.{Binary, home}
 use Rattle.jobs.specs.Component.{Joins, componentCount, component}
 use Rattle.jobs.specs.Structure.{Structure, degree, kind, structure}
 use Rattle.jobs.specs.MapLayout.{mapHeader, mapRow, mapRows, mapOf}
-use Rattle.jobs.specs.Demands.{mapGroupOn, namedOn, equationGroupOn, kindOn, MapOn}
+use Rattle.jobs.specs.Demands.{mapGroupOn, namedOn, kindOn, MapOn}
 use Rattle.jobs.proofs.Components.{length-leads, component-below}
 use Rattle.jobs.proofs.Numbering.{numbered-by}
 use Rattle.jobs.proofs.NormalForm.{home-below}
@@ -124,7 +124,7 @@ map-on j f rest = record {
   groups = numbered-by j _ _ (header-back t rest 2 (componentCount j) 16 (omega arith) refl (omega (arith, length-leads j, f .variables))) own;
   zeros = header-back t rest 6 0 18 (omega arith) refl (omega arith);
   named = λ i h. degree-back t rest i h (omega (arith, degree-most j i (length (j .equations)), f .equations));
-  equation-group = λ k h. let l = homed k h in equation-back t rest k h (below (home (equation j k)) l) ∙ sym (own (home (equation j k)) l);
+  equation-group = λ k h. let l = home-in k h in equation-back t rest k h (below (home (equation j k)) l) ∙ sym (own (home (equation j k)) l);
   joins = λ k h. subst (λ x. (x ≡ 1) ↔ Joins j k) (sym (of-kind k h)) (kind-joins j k);
   rings = λ k h. subst (λ x. (x ≡ 2) ↔ (Binary (equation j k) × (¬ Joins j k))) (sym (of-kind k h)) (kind-rings j k);
   fixes = λ k h. subst (λ x. (x ≡ 3) ↔ (¬ Binary (equation j k))) (sym (of-kind k h)) (kind-fixes j k);
@@ -139,8 +139,8 @@ map-on j f rest = record {
     own : (i : ℕ) → i < length (j .variables) → mapGroupOn (mapOf (structure j) ++ rest) i ≡ component j i
     own i h = component-back (structure j) rest i h (below i h)
 
-    homed : (k : ℕ) → k < length (j .equations) → home (equation j k) < length (j .variables)
-    homed k h = let e = f .each-equation k h in home-below (equation j k) (length (j .variables)) (e .left) (e .right)
+    home-in : (k : ℕ) → k < length (j .equations) → home (equation j k) < length (j .variables)
+    home-in k h = let e = f .each-equation k h in home-below (equation j k) (length (j .variables)) (e .left) (e .right)
 
     of-kind : (k : ℕ) → k < length (j .equations) → kindOn j (mapOf (structure j) ++ rest) k ≡ kind j k
     of-kind k h = kind-back (structure j) rest k h (omega (arith, kind-small j k))

@@ -1,12 +1,13 @@
 -- The normal form of an equation: it has the same value for every list (`normal-value`), and two variables exactly where it joins them.
 use mathlib.Core.Path.{_≡_, refl, sym, _∙_, ap, subst}
-use mathlib.Core.Logic.{_↔_, _⊎_, inl, inr, ⊎-map, _≢_}
+use mathlib.Core.Logic.{_↔_, _⊎_, inl, inr, ⊎-map, _≢_, Iff·trans}
 use mathlib.Core.Bool.{Bool, true, false, cond, not, _&&_, false≢true}
 use mathlib.Core.List.{List, [], _∷_}
 use Prim.Native.Nat.{ℕ, _<_}
 use native.Mathlib.Decide.{ℕ-discrete}
 use lib.Dec.{eqb}
 use borrow.Author.Tests.{ne-eqb, eqb-false, not-true}
+use Rattle.reasons.proofs.Answers.{and-iff}
 use Rattle.ints.specs.Equal.{isEqual}
 use Rattle.ints.proofs.{ℤ, pos, _+ℤ_, _*ℤ_, arith, lin, lin₀, _&_, facts}
 use Rattle.ints.proofs.Equal.{equal-true, equal-false, other-true}
@@ -16,11 +17,6 @@ use Rattle.jobs.specs.NormalForm.{Binary, home, isBinary, normal}
 use Rattle.jobs.specs.Solution.{number, value}
 use Rattle.jobs.specs.Decide.{tested}
 use Rattle.jobs.specs.ReasonTable.{Coefficients}
-
--- both of two tests
-both-true : (s t : Bool) → s && t ≡ true → (s ≡ true) × (t ≡ true)
-both-true true t h = (refl, h)
-both-true false t h = absurd (false≢true h)
 
 zero? : (x : ℤ) → Dec (x ≡ pos 0)
 zero? x = tested (isEqual x (pos 0)) (equal-true x (pos 0))
@@ -36,17 +32,13 @@ sum-at a b h p q l r = lin (a ∷ b ∷ h ∷ p ∷ q ∷ []) (moved a h p l & m
 module _ (e : Equation) where
   pub binary-iff : (isBinary e ≡ true) ↔ Binary e
   unfolding isBinary
-  binary-iff = (to, λ b. rw (ne-eqb (e .left) (e .right) (b .different), equal-false (e .a) (pos 0) (b .left-not-zero), equal-false (e .b) (pos 0) (b .right-not-zero)) refl)
+  binary-iff = Iff·trans (and-iff different-iff (and-iff (other-true (e .a) (pos 0)) (other-true (e .b) (pos 0)))) (
+    λ p. record { different = p .0; left-not-zero = p .1 .0; right-not-zero = p .1 .1 },
+    λ b. (b .different, (b .left-not-zero, b .right-not-zero)),
+  )
     where
-      to : not (eqb (e .left) (e .right)) && (not (isEqual (e .a) (pos 0)) && not (isEqual (e .b) (pos 0))) ≡ true → Binary e
-      to h =
-          let (d, z) = both-true (not (eqb (e .left) (e .right))) _ h in
-          let (a, b) = both-true (not (isEqual (e .a) (pos 0))) (not (isEqual (e .b) (pos 0))) z in
-          record {
-            different = eqb-false (e .left) (e .right) (not-true (eqb (e .left) (e .right)) d);
-            left-not-zero = other-true (e .a) (pos 0) .0 a;
-            right-not-zero = other-true (e .b) (pos 0) .0 b;
-          }
+      different-iff : (not (eqb (e .left) (e .right)) ≡ true) ↔ (e .left ≢ e .right)
+      different-iff = (λ t. eqb-false (e .left) (e .right) (not-true (eqb (e .left) (e .right)) t), λ d. ap not (ne-eqb (e .left) (e .right) d))
 
   pub binary-false : ¬ Binary e → isBinary e ≡ false
   binary-false n = go (isBinary e) refl
@@ -76,12 +68,12 @@ module _ (e : Equation) where
   home-none z w = rw (equal-true (e .a) (pos 0) .1 z, equal-true (e .b) (pos 0) .1 w) refl
 
   -- it is one of the two variables
-  pub data Homed : Type 0 where
+  data Homed : Type 0 where
     by-left : e .a ≢ pos 0 → home e ≡ e .left → Homed
     by-right : e .a ≡ pos 0 → e .b ≢ pos 0 → home e ≡ e .right → Homed
     by-neither : e .a ≡ pos 0 → e .b ≡ pos 0 → home e ≡ e .left → Homed
 
-  pub homed : Homed
+  homed : Homed
   homed = go (zero? (e .a)) (zero? (e .b))
     where
       go : Dec (e .a ≡ pos 0) → Dec (e .b ≡ pos 0) → Homed

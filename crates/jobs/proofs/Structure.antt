@@ -1,4 +1,5 @@
--- How a job hangs together: the kind of an equation tells whether it joins two sets, and how often a variable is named, equation by equation.
+-- How a job hangs together: the kind of an equation tells whether it joins two sets; and how often a variable is named, equation by
+-- equation.
 use mathlib.Core.Path.{_≡_, refl, _∙_, ap}
 use mathlib.Core.Logic.{_↔_, _≢_}
 use mathlib.Core.Bool.{Bool, true, false, cond}

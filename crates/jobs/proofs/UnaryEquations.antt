@@ -13,8 +13,8 @@ use Rattle.jobs.specs.Component.{Joined}
 use Rattle.jobs.specs.Demands.{SolvesGroup}
 use Rattle.jobs.proofs.NormalForm.{normal-unary, normal-value}
 
-alone : (d h : ℤ) → d *ℤ h +ℤ pos 0 *ℤ h ≡ d *ℤ h
-alone d h = lin₀ (d ∷ h ∷ []) (search facts depth 20) (omega arith)
+one-term : (d h : ℤ) → d *ℤ h +ℤ pos 0 *ℤ h ≡ d *ℤ h
+one-term d h = lin₀ (d ∷ h ∷ []) (search facts depth 20) (omega arith)
 
 nothing : (d h : ℤ) → d ≡ pos 0 → d *ℤ h ≡ pos 0
 nothing d h z = lin (d ∷ h ∷ []) (ap (λ t. t *ℤ h) z) (search facts depth 20) (omega arith)
@@ -24,7 +24,7 @@ module _ (e : Equation) (unary : ¬ Binary e) (x : List ℤ) where
   coefficient = e .a +ℤ e .b
 
   pub value-is : value e x ≡ (e .a +ℤ e .b) *ℤ number x (home e)
-  value-is = sym (normal-value e x) ∙ ap (λ e. value e x) (normal-unary e unary) ∙ alone coefficient (number x (home e))
+  value-is = sym (normal-value e x) ∙ ap (λ e. value e x) (normal-unary e unary) ∙ one-term coefficient (number x (home e))
 
   -- 0 = 0 holds of every list, and 0 = c of none
   pub always : e .a +ℤ e .b ≡ pos 0 → e .c ≡ pos 0 → value e x ≡ e .c
@@ -36,8 +36,8 @@ module _ (e : Equation) (unary : ¬ Binary e) (x : List ℤ) where
 -- ---- in the group that it belongs to
 module _ (j : Job) (k : ℕ) (h : k < length (j .equations)) (unary : ¬ Binary (equation j k)) (l : ℕ) (inside : Joined j l (home (equation j k))) (x : List ℤ) where
   -- every fit-out keeps coefficient · home = c
-  pub fixes : SolvesGroup j l x → (equation j k .a +ℤ equation j k .b) *ℤ number x (home (equation j k)) ≡ equation j k .c
-  fixes s = sym (value-is (equation j k) unary x) ∙ s .holds k h inside
+  pub fixed : SolvesGroup j l x → (equation j k .a +ℤ equation j k .b) *ℤ number x (home (equation j k)) ≡ equation j k .c
+  fixed s = sym (value-is (equation j k) unary x) ∙ s .holds k h inside
 
-  pub no-fit : equation j k .a +ℤ equation j k .b ≡ pos 0 → equation j k .c ≢ pos 0 → ¬ SolvesGroup j l x
-  no-fit z n s = never (equation j k) unary x z n (s .holds k h inside)
+  pub leaves-none : equation j k .a +ℤ equation j k .b ≡ pos 0 → equation j k .c ≢ pos 0 → ¬ SolvesGroup j l x
+  leaves-none z n s = never (equation j k) unary x z n (s .holds k h inside)

@@ -165,8 +165,8 @@ pub record BestOn (j : Job) (w : ℤ) (after : List ℕ) : Type 0 where
 pub record CannotBeBettered (c : Call) (v : Verdict) (x : Areas) : Type 0 where
   pub best : (w : ℤ) → v ≡ planned w → IfLent (x .sheet) (BestOn (jobOf (c .job)) w)
 
--- ---- demand of the repair bench (document 02, #101 and #102): a map area that is lent shows how the job hangs together, on planned and on no
--- fit; j says how many rows there are
+-- ---- demand of the repair bench (document 02, #101 and #102): a map area that is lent shows how the job hangs together, on planned and
+-- on no fit; j says how many rows there are
 
 abbrev pub mapGroupOn : List ℕ → ℕ → ℕ
 mapGroupOn after i = u16 after (24 + 4 * i)

@@ -10,7 +10,7 @@ use Rattle.lists.specs.Table.{table}
 use Rattle.lists.proofs.Maps.{same-values}
 use Rattle.bytes.specs.LittleEndian.{unsigned, u16, u32}
 use Rattle.jobs.specs.Call.{Areas, Call, areasOf, callOf}
-use Rattle.jobs.specs.Job.{Job, jobOf, equation}
+use Rattle.jobs.specs.Job.{jobOf, equation}
 use Rattle.jobs.specs.NormalForm.{home}
 use Rattle.jobs.specs.Component.{componentCount, component}
 use Rattle.jobs.specs.Structure.{degree, kind}
@@ -19,7 +19,7 @@ use Rattle.jobs.specs.MapLayout.{mapMark}
 use Rattle.jobs.specs.Verdict.{Verdict, planned, noFit, refused, verdict}
 use Rattle.jobs.specs.AreasAfter.{areasAfter}
 use Rattle.jobs.specs.Demands.{mapGroupOn, namedOn, equationGroupOn, kindOn}
-use Rattle.jobs.specs.JobBytes.{plus, minus, header, plain, equationBytes, total, difference, mapHead, pair}
+use Rattle.jobs.specs.JobBytes.{plus, header, plain, equationBytes, total, difference, mapHead, pair}
 use Rattle.jobs.specs.Vectors.{narrowM, narrowMSheet, emptySheet, untied, untiedSheet, falling, fallingSheet, twice, twiceSheet, groups, uneven}
 
 -- a job, the areas as lent, and what they give
@@ -30,13 +30,13 @@ pub record MapVector : Type 0 where
   pub after : Areas
 
 -- an answer area of n bytes: 100, 101, 102 and so on; and a map area of m: 50, 51, 52 and so on
-abbrev pub fresh : ℕ → List ℕ
+abbrev fresh : ℕ → List ℕ
 fresh n = table (λ i. 100 + i) n
 
 abbrev freshMap : ℕ → List ℕ
 freshMap m = table (λ i. 50 + i) m
 
-abbrev pub lending : ℕ → ℕ → Areas
+abbrev lending : ℕ → ℕ → Areas
 lending n m = areasOf (fresh n) (some (freshMap m))
 
 -- areas as long as what stands in them afterwards; no fit, where only the map is written; and a refusal
@@ -54,17 +54,17 @@ abbrev closed : List ℕ
 closed = header 3 3 60 120 ++ plain 1 ++ plain 1 ++ plain 1 ++ difference 0 1 0 ++ difference 1 2 0 ++ difference 0 2 0
 
 -- number 1, base 0, step 1 of a count in a group, and fits 2, k 1, gain 0 of a group
-abbrev pub one : ℕ → List ℕ
-one group = 1 ∷ 0 ∷ 0 ∷ 0 ∷ 0 ∷ 0 ∷ 0 ∷ 0 ∷ 1 ∷ 0 ∷ 0 ∷ 0 ∷ group ∷ 0 ∷ 0 ∷ 0 ∷ []
+abbrev pub atOne : ℕ → List ℕ
+atOne group = 1 ∷ 0 ∷ 0 ∷ 0 ∷ 0 ∷ 0 ∷ 0 ∷ 0 ∷ 1 ∷ 0 ∷ 0 ∷ 0 ∷ group ∷ 0 ∷ 0 ∷ 0 ∷ []
 
-abbrev pub two : List ℕ
-two = 2 ∷ 0 ∷ 0 ∷ 0 ∷ 1 ∷ 0 ∷ 0 ∷ 0 ∷ 0 ∷ 0 ∷ 0 ∷ 0 ∷ 0 ∷ 0 ∷ 0 ∷ 0 ∷ []
+abbrev pub twoFits : List ℕ
+twoFits = 2 ∷ 0 ∷ 0 ∷ 0 ∷ 1 ∷ 0 ∷ 0 ∷ 0 ∷ 0 ∷ 0 ∷ 0 ∷ 0 ∷ 0 ∷ 0 ∷ 0 ∷ 0 ∷ []
 
 abbrev closedSheet : List ℕ
 closedSheet =
     -- 3 counts, 1 group, its row at 72, worth 0
     65 ∷ 78 ∷ 83 ∷ 49 ∷ 3 ∷ 0 ∷ 1 ∷ 0 ∷ 24 ∷ 0 ∷ 0 ∷ 0 ∷ 72 ∷ 0 ∷ 0 ∷ 0 ∷ 0 ∷ 0 ∷ 0 ∷ 0 ∷ 0 ∷ 0 ∷ 0 ∷ 0 ∷ [] ++
-    one 0 ++ one 0 ++ one 0 ++ two
+    atOne 0 ++ atOne 0 ++ atOne 0 ++ twoFits
 
 -- each count is named by two rows; the third row is a ring, kind 2
 abbrev closedMap : List ℕ
@@ -79,7 +79,7 @@ abbrev renumberedSheet : List ℕ
 renumberedSheet =
     -- 4 counts, 2 groups, their rows at 88, worth 0
     65 ∷ 78 ∷ 83 ∷ 49 ∷ 4 ∷ 0 ∷ 2 ∷ 0 ∷ 24 ∷ 0 ∷ 0 ∷ 0 ∷ 88 ∷ 0 ∷ 0 ∷ 0 ∷ 0 ∷ 0 ∷ 0 ∷ 0 ∷ 0 ∷ 0 ∷ 0 ∷ 0 ∷ [] ++
-    one 0 ++ one 0 ++ one 0 ++ one 1 ++ two ++ two
+    atOne 0 ++ atOne 0 ++ atOne 0 ++ atOne 1 ++ twoFits ++ twoFits
 
 abbrev renumberedMap : List ℕ
 renumberedMap = mapHead 4 2 40 2 ++ pair 0 1 ++ pair 0 2 ++ pair 0 1 ++ pair 1 0 ++ pair 0 1 ++ pair 0 1
@@ -144,22 +144,26 @@ mapVectors =
     -- a map alone: the answer area is not lent, and not too short
     record { job = falling; lent = record { sheet = none; map = some (freshMap 36) }; verdict = planned (pos 2); after = record { sheet = none; map = some tiedMap } } ∷ []
 
-abbrev pub called : MapVector → Call
+abbrev called : MapVector → Call
 called v = callOf (v .job) (v .lent)
 
-abbrev pub given : MapVector → Verdict × Areas
+abbrev given : MapVector → Verdict × Areas
 given v = (verdict (called v), areasAfter (called v))
 
-abbrev pub expected : MapVector → Verdict × Areas
+abbrev expected : MapVector → Verdict × Areas
 expected v = (v .verdict, v .after)
 
-computed : map given mapVectors ≡ map expected mapVectors
-unfolding verdict areasAfter table
-computed = refl
+-- the definitions give what was worked out, at all of them together, and so at each
+abbrev pub Worked : List MapVector → Type 0
+Worked vs = map given vs ≡ map expected vs
 
--- the definitions give what was worked out, at each of them
-pub map-worked : (v : MapVector) → v ∈ mapVectors → (verdict (callOf (v .job) (v .lent)) ≡ v .verdict) × (areasAfter (callOf (v .job) (v .lent)) ≡ v .after)
-map-worked v h = let e = same-values given expected computed h in (ap (λ p. p .0) e, ap (λ p. p .1) e)
+pub at-each : {vs : List MapVector} → Worked vs → (v : MapVector) → v ∈ vs →
+    (verdict (callOf (v .job) (v .lent)) ≡ v .verdict) × (areasAfter (callOf (v .job) (v .lent)) ≡ v .after)
+at-each w v h = let e = same-values given expected w h in (ap (λ p. p .0) e, ap (λ p. p .1) e)
+
+pub map-worked : Worked mapVectors
+unfolding verdict areasAfter table
+map-worked = refl
 
 -- ---- what the demand reads off the bytes is what the definitions mean
 record Reading : Type 0 where

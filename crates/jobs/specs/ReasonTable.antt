@@ -39,7 +39,7 @@ pub record InRange (v : Variable) : Type 0 where
   pub high : Within bound (v .high)
   pub weight : Within 1000000 (v .weight)
 
--- "a and b are [..] 1,000,000 in size with either sign" at most, 0 included by 02's #102, "c lies within ±2,000,000,000,000,000"
+-- "a and b are 1 to 1,000,000 in size with either sign", or 0 by 02's #102; "c lies within ±2,000,000,000,000,000"
 pub record Coefficients (e : Equation) : Type 0 where
   pub left : Within 1000000 (e .a)
   pub right : Within 1000000 (e .b)

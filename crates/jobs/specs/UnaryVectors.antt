@@ -1,15 +1,13 @@
 -- Equations that join no two counts (document 02, #102) through the definitions: verdict, sheet and map, bytes worked out by hand.
-use mathlib.Core.Path.{_≡_, refl, ap}
-use mathlib.Core.List.{List, [], _∷_, _++_, map}
+use mathlib.Core.Path.{refl}
+use mathlib.Core.List.{List, [], _∷_, _++_}
 use Prim.Native.Nat.{ℕ}
 use lib.IntN.{pos, negsuc}
-use Rattle.lists.specs.Members.{_∈_}
 use Rattle.lists.specs.Table.{table}
-use Rattle.lists.proofs.Maps.{same-values}
 use Rattle.jobs.specs.Verdict.{verdict}
 use Rattle.jobs.specs.AreasAfter.{areasAfter}
 use Rattle.jobs.specs.JobBytes.{plus, minus, header, count, plain, equationBytes, total, difference, mapHead, pair}
-use Rattle.jobs.specs.MapVectors.{MapVector, mapped, unfit, one, two, called, given, expected}
+use Rattle.jobs.specs.MapVectors.{MapVector, mapped, unfit, atOne, twoFits, Worked}
 
 -- ---- jobs of counts 0..9 and weight 1, of two counts 0..1 without weight, and of counts 0..3
 -- one count, one equation
@@ -43,7 +41,7 @@ fourSheet = head 1 1 40 4 ++ at 4 0 ++ only
 
 -- the two of `apart`, each free: both at 1, the higher of two numbers of equal worth
 abbrev freeSheet : List ℕ
-freeSheet = head 2 2 56 0 ++ one 0 ++ one 1 ++ two ++ two
+freeSheet = head 2 2 56 0 ++ atOne 0 ++ atOne 1 ++ twoFits ++ twoFits
 
 -- the two of `ties` in one group, at 2 and 1
 abbrev joinedSheet : List ℕ
@@ -76,8 +74,8 @@ abbrev fourMillion : List ℕ → List ℕ → List ℕ
 fourMillion a b = 0 ∷ 0 ∷ 0 ∷ 0 ∷ [] ++ a ++ b ++ 0 ∷ 9 ∷ 61 ∷ 0 ∷ 0 ∷ 0 ∷ 0 ∷ 0 ∷ []
 
 -- one count −3..3, of weight −1; at 2 and at −2
-abbrev sum : List ℕ → List ℕ
-sum e = header 1 1 36 56 ++ count (minus 3) (plus 3) (minus 1) ++ e
+abbrev doubled : List ℕ → List ℕ
+doubled e = header 1 1 36 56 ++ count (minus 3) (plus 3) (minus 1) ++ e
 
 -- worth −2, and 2
 abbrev twoSheet : List ℕ
@@ -112,24 +110,21 @@ unaryVectors =
     mapped (apart (equationBytes 1 1 (plus 3) (minus 3) 0)) (pos 0) freeSheet doubledMap ∷
     unfit (apart (equationBytes 1 1 (plus 3) (minus 3) 1)) 88 1 doubledMap ∷
     -- 0·c0 + 3·c1 = 3: the right count's group; and 4. 3·c0 + 0·c1 = 4: the left count's
-    mapped (apart (equationBytes 0 1 (plus 0) (plus 3) 3)) (pos 0) (head 2 2 56 0 ++ one 0 ++ at 1 1 ++ two ++ only) (apartMap 1) ∷
+    mapped (apart (equationBytes 0 1 (plus 0) (plus 3) 3)) (pos 0) (head 2 2 56 0 ++ atOne 0 ++ at 1 1 ++ twoFits ++ only) (apartMap 1) ∷
     unfit (apart (equationBytes 0 1 (plus 0) (plus 3) 4)) 88 1 (apartMap 1) ∷
     unfit (apart (equationBytes 0 1 (plus 3) (plus 0) 4)) 88 0 (apartMap 0) ∷
     -- ±1,000,000 twice: ±2,000,000·c0 = 4,000,000
-    mapped (sum (fourMillion million million)) (negsuc 1) twoSheet singleMap ∷
-    mapped (sum (fourMillion lessMillion lessMillion)) (pos 2) lessTwoSheet singleMap ∷
+    mapped (doubled (fourMillion million million)) (negsuc 1) twoSheet singleMap ∷
+    mapped (doubled (fourMillion lessMillion lessMillion)) (pos 2) lessTwoSheet singleMap ∷
     -- 2·c0 = 4 before c0 + c1 = 3, and after it
     mapped (ties (equationBytes 0 0 (plus 2) (plus 0) 4) (total 0 1 3)) (pos 0) joinedSheet (tiesMap 2 1 3 1) ∷
     mapped (ties (total 0 1 3) (equationBytes 0 0 (plus 0) (plus 2) 4)) (pos 0) joinedSheet (tiesMap 2 1 1 3) ∷
-    -- 2·c0 + 0·c1 = 4 between counts that c0 − c1 = 1 joins: kind 3, and both are named twice; before it, the other row still joins
+    -- 2·c0 + 0·c1 = 4 between counts that c0 − c1 = 1 joins: kind 3, and both are named twice; and 0·c0 + 2·c1 = 2 before that row, which
+    -- still joins
     mapped (ties (difference 0 1 1) (equationBytes 0 1 (plus 2) (plus 0) 4)) (pos 0) joinedSheet (tiesMap 2 2 1 3) ∷
     mapped (ties (equationBytes 0 1 (plus 0) (plus 2) 2) (difference 0 1 1)) (pos 0) joinedSheet (tiesMap 2 2 3 1) ∷
     unfit emptied 104 1 emptiedMap ∷ []
 
-computed : map given unaryVectors ≡ map expected unaryVectors
+pub unary-worked : Worked unaryVectors
 unfolding verdict areasAfter table
-computed = refl
-
--- the definitions give what was worked out, at each of them
-pub unary-worked : (v : MapVector) → v ∈ unaryVectors → (verdict (called v) ≡ v .verdict) × (areasAfter (called v) ≡ v .after)
-unary-worked v h = let e = same-values given expected computed h in (ap (λ p. p .0) e, ap (λ p. p .1) e)
+unary-worked = refl

@@ -1,21 +1,21 @@
 -- What the pass over a job's equations says of the arrays that the map is written from.
-use mathlib.Core.Path.{_≡_, sym, _∙_, ap, ap₂, subst}
+use mathlib.Core.Path.{_≡_, sym, _∙_, ap, ap₂}
 use mathlib.Core.List.{List}
 use Prim.Native.Nat.{ℕ, _<_}
 use native.Mathlib.Omega.{arith}
 use lib.Dec.{ltb}
-use lib.ListN.{length, getD}
+use lib.ListN.{length}
 use Rattle.lists.specs.Keep.{keep}
 use Rattle.jobs.specs.Job.{Job, jobOf, variableCount, equationCount, equation}
 use Rattle.jobs.specs.NormalForm.{home}
 use Rattle.jobs.specs.Lawful.{Lawful}
-use Rattle.jobs.specs.Component.{lowest, leads, component}
+use Rattle.jobs.specs.Component.{lowest, component}
 use Rattle.jobs.specs.Structure.{degreeBy, structure}
 use Rattle.jobs.specs.MapLayout.{mapOf}
 use Rattle.jobs.proofs.NormalForm.{home-below}
 use Rattle.jobs.proofs.Components.{lowest-le, lowest-self}
 use Rattle.jobs.proofs.MapFields.{SameStructure, same-map}
-use Rattle.families.specs.ModelFindings.{leadsBy, componentBy}
+use Rattle.families.specs.ModelFindings.{componentBy}
 use Rattle.solver.specs.StateArrays.{labelIn}
 use Rattle.solver.specs.Labels.{Lowest}
 use Rattle.solver.specs.Structured.{Structured}

@@ -27,7 +27,7 @@ pub record Through (j : Job) (n k : ℕ) (labels degrees homes kinds : List ℕ)
   pub labelled : Labels j k n labels
   pub wide : length degrees ≡ 256
   pub named : Tabulates 0 (degreeBy j k) n degrees
-  pub homed : Filled 1024 0 (λ k. home (equation j k)) k homes
+  pub belongs : Filled 1024 0 (λ k. home (equation j k)) k homes
   pub sorts : Filled 1024 0 (kind j) k kinds
 
 zeros : (n i : ℕ) → _≡_ {A = ℕ} (getD (replicate n 0) i 0) 0
@@ -40,7 +40,7 @@ begins j n labels a = record {
   labelled = a;
   wide = length-replicate {A = ℕ} 256 0;
   named = record { at = λ i h. zeros 256 i ∙ sym (degree-none j i) };
-  homed = unfilled 0 (λ k. home (equation j k)) (replicate 1024 0) (length-replicate {A = ℕ} 1024 0);
+  belongs = unfilled 0 (λ k. home (equation j k)) (replicate 1024 0) (length-replicate {A = ℕ} 1024 0);
   sorts = unfilled 0 (kind j) (replicate 1024 0) (length-replicate {A = ℕ} 1024 0);
 }
 
@@ -48,7 +48,7 @@ begins j n labels a = record {
 abbrev pub more : List ℕ → ℕ → List ℕ
 more degrees i = set degrees i (getD degrees i 0 + 1)
 
-abbrev pub counted : List ℕ → ℕ → ℕ → List ℕ
+abbrev counted : List ℕ → ℕ → ℕ → List ℕ
 counted degrees l r = set (more degrees l) r (getD (more degrees l) r 0 + added l r)
 
 module _ (j : Job) (k n : ℕ) (degrees : List ℕ) (wide : length degrees ≡ 256) (small : n ≤ 256) (d : Tabulates 0 (degreeBy j k) n degrees)
@@ -143,7 +143,7 @@ module _ {j : Job} {n k : ℕ} {labels degrees homes kinds : List ℕ} (t : Thro
     named =
         subst (λ z. Tabulates 0 (degreeBy j (k + 1)) n (set (more degrees (e .left)) (e .right) (getD (more degrees (e .left)) (e .right) 0 + z))) (sym w)
         (subst (λ e. Tabulates 0 (degreeBy j (k + 1)) n (counted degrees (e .left) (e .right))) (sym is) (degrees-next j k n degrees (t .wide) small (t .named) left right));
-    homed = filled 0 (λ k. home (equation j k)) k homes (t .homed) (x .left) below (ap (λ e. e .left) x-is ∙ normal-home (equation j k));
+    belongs = filled 0 (λ k. home (equation j k)) k homes (t .belongs) (x .left) below (ap (λ e. e .left) x-is ∙ normal-home (equation j k));
     sorts = filled 0 (kind j) k kinds (t .sorts) y below (q ∙ kinds-same ∙ kind-by j k n labels (t .labelled) left right);
   }
     where

@@ -18,8 +18,8 @@ pub enum Remains {
     At(Run),
 }
 
-// With p = first + step·k, and q likewise, the equation says coefficient·k = value. Both numbers are at most
-// 10,000,000,000,000,000 in size.
+// With p = first + step·k, and q likewise, the equation says coefficient·k = value. Both numbers are within the
+// 10,000,000,000,000,000 that `candidate` asks for.
 pub(crate) fn inside(e: Equation, p: Run, q: Run) -> Remains
     requires { ⌜ Combinable e ⌝ }
     requires { ⌜ FamilyRun p ⌝ }

@@ -219,20 +219,20 @@ fn holds(b: &Buffer, k: u8, p: Part, list: u64) -> bool {
     let at = row(b, k);
     let left = byte(b, at);
     let right = byte(b, at + 2);
-    let a = byte(b, at + 4);
-    let c = byte(b, at + 8);
-    if !has(b, p, owner(left, right, a, c)) {
+    let of_left = byte(b, at + 4);
+    let of_right = byte(b, at + 8);
+    if !has(b, p, home(left, right, of_left, of_right)) {
         return true;
     }
-    let x = times(a, number(list, left));
-    let y = times(c, number(list, right));
+    let x = times(of_left, number(list, left));
+    let y = times(of_right, number(list, right));
     std::num::wrapping_add_u64(x, y) == wide(byte(b, at + 12))
 }
 
 // The variable whose group an equation with these coefficients belongs to.
-fn owner(left: u8, right: u8, a: u8, b: u8) -> u8 {
-    if a == 0 {
-        if b != 0 {
+fn home(left: u8, right: u8, of_left: u8, of_right: u8) -> u8 {
+    if of_left == 0 {
+        if of_right != 0 {
             return right;
         }
     }

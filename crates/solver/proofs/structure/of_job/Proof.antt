@@ -234,7 +234,7 @@ returns c =
     let l = c .before .loop in
     let e : l .k ≡ s .args .m = omega arith in
     let t = subst (λ k. Through (jobOf (s .args .job .now)) (s .args .n) k (l .labels) (l .found .degrees) (l .found .homes) (l .found .kinds)) e (l .inv .1 .1) in
-    record { labels = t .labelled; degrees = t .named; homes = record { at = t .homed .done }; kinds = record { at = t .sorts .done } }
+    record { labels = t .labelled; degrees = t .named; homes = record { at = t .belongs .done }; kinds = record { at = t .sorts .done } }
 
 pub of-job-spec : {M : Type 1} → statement M
 of-job-spec =
