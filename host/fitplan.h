@@ -2,10 +2,10 @@
  * Link libfitplan.a.
  *
  * A job has counts, each with a low, a high and a weight, and equations a*left + b*right = c, each
- * on two counts or on one. A fit-out gives every count a whole number from its low to its high such that all
- * equations hold. The planner writes the fit-out of greatest worth, the sum of weight * number; or
- * says that there is no fit; or refuses the call. Among fit-outs of equal worth it takes the one
- * with the higher number at count 0, then at count 1, and so on.
+ * on two counts or on one. A fit-out gives every count a whole number from its low to its high such
+ * that all equations hold. The planner writes the fit-out of greatest worth, the sum of
+ * weight * number; or says that there is no fit; or refuses the call. Among fit-outs of equal worth
+ * it takes the one with the higher number at count 0, then at count 1, and so on.
  *
  * What the host has to see to, since nothing here can test it:
  *   - a length is the true length of its buffer;
@@ -49,8 +49,9 @@
  *
  * A group is a largest set of counts that equations join; a count that no equation joins to another is
  * a group of its own. An equation that joins no two counts belongs to the group of its count with a
- * coefficient that is not 0, or of its left count when both are 0. Groups are numbered in the order of their lowest counts. The fit-outs of a group are
- * base + step * k, with k from 0 to fits - 1, over all its counts together.
+ * coefficient that is not 0, or of its left count when there is none. Groups are numbered in the
+ * order of their lowest counts. The fit-outs of a group are base + step * k, with k from 0 to
+ * fits - 1, over all its counts together.
  *
  * The sheet, written on "planned": a header, n count rows, g group rows.
  *

@@ -59,7 +59,7 @@ static const struct trap traps[] = {
     {"0 c0 + 3 c1 = 3", 2, 1, 2, {TWO, TWO}, {{0, 1, 0, 3, 3}}, {0, 1}, {1, 1}, {1}, {3}, 1, 0, 0, {FREE, {1, 1, 0}}, {BOTH, {1, 0, 0}}},
     {"0 c0 + 3 c1 = 4", 2, 1, 2, {TWO, TWO}, {{0, 1, 0, 3, 4}}, {0, 1}, {1, 1}, {1}, {3}, 0, 1, 0, {{0}}, {{0}}},
     {"3 c0 + 0 c1 = 4", 2, 1, 2, {TWO, TWO}, {{0, 1, 3, 0, 4}}, {0, 1}, {1, 1}, {0}, {3}, 0, 0, 0, {{0}}, {{0}}},
-    /* +-2,000,000 c0 = c, at both ends of the range and one past it */
+    /* +-2,000,000 c0 = c, at both ends of the range, and just before the end, which is not whole */
     {"1,000,000 twice, at the high end", 1, 1, 1, {FULL}, {{0, 0, 1000000, 1000000, 2000000000000000}}, {0}, {1}, {0}, {3}, 1, 0, 0,
      {{1000000000, 1000000000, 0}}, {{1, 0, 0}}},
     {"-1,000,000 twice, at the low end", 1, 1, 1, {FULL}, {{0, 0, -1000000, -1000000, 2000000000000000}}, {0}, {1}, {0}, {3}, 1, 0, 0,
@@ -159,7 +159,8 @@ static void try_trap(const struct trap *t) {
     const size_t room = fit_sheet_length(t->n, t->g);
     memset(area, OLD, ROOM);
     memset(map, OLD, ROOM);
-    const struct fit_call call = {.job = job.at, .job_length = job.length, .area = area, .area_length = room, .map = map, .map_length = shown.length};
+    const struct fit_call call = {.job = job.at, .job_length = job.length, .area = area, .area_length = room,
+                                  .map = map, .map_length = shown.length};
     const struct fit_outcome got = fit_plan(&call);
     const int right = t->fits ? got.kind == FIT_PLANNED && got.worth == t->worth : got.kind == FIT_NO_FIT && got.count == t->empty;
     tell(t->what, right ? NULL : "another verdict");

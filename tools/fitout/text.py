@@ -16,9 +16,9 @@ comma between them, and counts alike can share their bounds: count cards, cords 
 for N rows, and a name gets their numbers: cards1, cards2.
 
 A tie has one term or two, on either side of its =; plain numbers may stand there too: tie extensions = 16 cards + 4. A coefficient
-stands before its count, 16 cards, 16*cards, 16·cards, and may be 0; of a count that is named twice they are added up. It is packed as it
-is read from the left: the count named first is the row's left count, and if it is the only one the row's right count too, with b = 0.
-Numbers are whole, and may be grouped by threes: 1,000,000 or 1_000_000.
+stands before its count, 16 cards, 16*cards, 16·cards, and may be 0; those of a count that is named twice are added up. A tie is packed as
+it is read from the left: the count of its first term is the row's left count, and a tie with one term has that as its right count too, with
+b = 0. Numbers are whole, and may be grouped by threes: 1,000,000 or 1_000_000.
 
 A fault stops the packing; all faults are told at once, each with its line. What the planner would refuse is packed all the same, with
 a warning: a number has to fit its field, and need not be in its range (docs/FORMAT.md).
