@@ -1,7 +1,7 @@
 -- The normal form of an equation: it has the same value for every list (`normal-value`), and two variables exactly where it joins them.
 use mathlib.Core.Path.{_≡_, refl, sym, _∙_, ap, subst}
 use mathlib.Core.Logic.{_↔_, _⊎_, inl, inr, ⊎-map, _≢_, Iff·trans}
-use mathlib.Core.Bool.{Bool, true, false, cond, not, _&&_, false≢true}
+use mathlib.Core.Bool.{Bool, true, false, cond, not}
 use mathlib.Core.List.{List, [], _∷_}
 use Prim.Native.Nat.{ℕ, _<_}
 use native.Mathlib.Decide.{ℕ-discrete}
@@ -48,11 +48,7 @@ module _ (e : Equation) where
       go false t = refl
 
   pub binary? : Dec (Binary e)
-  binary? = go (isBinary e) refl
-    where
-      go : (t : Bool) → isBinary e ≡ t → Dec (Binary e)
-      go true t = yes (binary-iff .0 t)
-      go false t = no (λ b. false≢true (sym t ∙ binary-iff .1 b))
+  binary? = tested (isBinary e) binary-iff
 
   -- ---- the home
   pub home-left : e .a ≢ pos 0 → home e ≡ e .left
@@ -93,30 +89,26 @@ module _ (e : Equation) where
   unfolding normal
   normal-unary n = ap (λ t. cond t e unary) (binary-false n)
 
-  pub normal-constant : normal e .c ≡ e .c
-  normal-constant = go binary?
+  -- what holds of either holds of it
+  pub normal-cases : (P : Equation → Type 0) → (Binary e → P e) → (¬ Binary e → P unary) → P (normal e)
+  normal-cases P two one = go binary?
     where
-      go : Dec (Binary e) → normal e .c ≡ e .c
-      go (yes b) = ap (λ e. e .c) (normal-binary b)
-      go (no n) = ap (λ e. e .c) (normal-unary n)
+      go : Dec (Binary e) → P (normal e)
+      go (yes b) = subst P (sym (normal-binary b)) (two b)
+      go (no n) = subst P (sym (normal-unary n)) (one n)
+
+  pub normal-constant : normal e .c ≡ e .c
+  normal-constant = normal-cases (λ n. n .c ≡ e .c) (λ b. refl) (λ n. refl)
 
   pub normal-home : normal e .left ≡ home e
-  normal-home = go binary?
-    where
-      go : Dec (Binary e) → normal e .left ≡ home e
-      go (yes b) = ap (λ e. e .left) (normal-binary b) ∙ sym (home-left (b .left-not-zero))
-      go (no n) = ap (λ e. e .left) (normal-unary n)
+  normal-home = normal-cases (λ n. n .left ≡ home e) (λ b. sym (home-left (b .left-not-zero))) (λ n. refl)
 
   -- two variables only where it is binary
-  pub normal-one : ¬ Binary e → normal e .left ≡ normal e .right
-  normal-one n = ap (λ e. e .left) (normal-unary n) ∙ sym (ap (λ e. e .right) (normal-unary n))
-
   pub normal-two : normal e .left ≢ normal e .right → Binary e
-  normal-two d = go binary?
-    where
-      go : Dec (Binary e) → Binary e
-      go (yes b) = b
-      go (no n) = absurd (d (normal-one n))
+  normal-two = normal-cases (λ n. n .left ≢ n .right → Binary e) (λ b d. b) (λ n d. absurd (d refl))
+
+  pub normal-one : ¬ Binary e → normal e .left ≡ normal e .right
+  normal-one = normal-cases (λ n. ¬ Binary e → n .left ≡ n .right) (λ b n. absurd (n b)) (λ u n. refl)
 
   -- ---- the same value
   -- a variable other than the home has coefficient 0
@@ -138,15 +130,11 @@ module _ (e : Equation) where
       go (by-right z n h) d (no m) = inr h
       go (by-neither z w h) d (no m) = inl w
 
-  module _ (x : List ℤ) where
-    pub normal-value : value (normal e) x ≡ value e x
-    normal-value = go binary?
-      where
-        go : Dec (Binary e) → value (normal e) x ≡ value e x
-        go (yes b) = ap (λ e. value e x) (normal-binary b)
-        go (no n) =
-            ap (λ e. value e x) (normal-unary n)
-            ∙ sum-at (e .a) (e .b) (number x (home e)) (number x (e .left)) (number x (e .right)) (⊎-map (λ z. z) (ap (number x)) left-or-zero) (⊎-map (λ z. z) (ap (number x)) (right-or-zero n))
+  pub normal-value : (x : List ℤ) → value (normal e) x ≡ value e x
+  normal-value x = normal-cases (λ n. value n x ≡ value e x) (λ b. refl) (λ n.
+      sum-at (e .a) (e .b) (number x (home e)) (number x (e .left)) (number x (e .right))
+      (⊎-map (λ z. z) (ap (number x)) left-or-zero) (⊎-map (λ z. z) (ap (number x)) (right-or-zero n))
+      )
 
   -- ---- of a lawful row
   module _ (n : ℕ) (left : e .left < n) (right : e .right < n) where
@@ -162,21 +150,14 @@ module _ (e : Equation) where
     normal-left-below = omega (arith, normal-home, home-below)
 
     pub normal-right-below : normal e .right < n
-    normal-right-below = go binary?
-      where
-        go : Dec (Binary e) → normal e .right < n
-        go (yes b) = omega (arith, ap (λ e. e .right) (normal-binary b))
-        go (no n) = omega (arith, normal-one n, normal-left-below)
+    normal-right-below = normal-cases (λ m. m .right < n) (λ b. right) (λ u. home-below)
 
-  module _ (f : Coefficients e) where
-    -- with two variables it can be carried
-    pub normal-carries : normal e .left ≢ normal e .right → CarryLimits (form (normal e))
-    normal-carries d =
-        let b = normal-two d in
-        subst (λ e. CarryLimits (form e)) (sym (normal-binary b)) (record {
-          left = f .left;
-          left-not-zero = b .left-not-zero;
-          right = f .right;
-          right-not-zero = b .right-not-zero;
-          constant = f .constant;
-        })
+  -- with two variables it can be carried
+  pub normal-carries : Coefficients e → normal e .left ≢ normal e .right → CarryLimits (form (normal e))
+  normal-carries f = normal-cases (λ n. n .left ≢ n .right → CarryLimits (form n)) (λ b d. record {
+    left = f .left;
+    left-not-zero = b .left-not-zero;
+    right = f .right;
+    right-not-zero = b .right-not-zero;
+    constant = f .constant;
+  }) (λ n d. absurd (d refl))

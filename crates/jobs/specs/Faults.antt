@@ -10,6 +10,7 @@ use Rattle.reasons.specs.declared.Reason.the-variants.{ShortJob, WrongMark, Too
 use Rattle.reasons.specs.Numbers.{numberOf, rowOf}
 use Rattle.jobs.specs.declared.Checked.{Checked}
 use Rattle.jobs.specs.declared.Checked.the-variants.{Accepted, Refused}
+use Rattle.ints.specs.Within.{Within}
 use Rattle.runs.specs.Run.{bound}
 use Rattle.bytes.specs.LittleEndian.{u32}
 use Rattle.jobs.specs.Decide.{below?, atMost?, equal?, within?, by, both, either, not?, list?, firstOf}
@@ -30,14 +31,21 @@ header? s =
     )
     (both (equal? (u32 s 8) 24) (both (equal? (u32 s 12) (24 + 12 * variableCount s)) (both (equal? (u32 s 16) whole) (both (equal? (u32 s 20) 0) (equal? (length s) whole)))))
 
+-- the two of three ranges each, by their parts
+abbrev pub rangeParts : (v : Variable) → (Within bound (v .low) × (Within bound (v .high) × Within 1000000 (v .weight))) ↔ InRange v
+rangeParts v = (λ h. record { low = h .0; high = h .1 .0; weight = h .1 .1 }, λ h. (h .low, (h .high, h .weight)))
+
+abbrev pub coefficientParts : (e : Equation) → (Within 1000000 (e .a) × (Within 1000000 (e .b) × Within 2000000000000000 (e .c))) ↔ Coefficients e
+coefficientParts e = (λ h. record { left = h .0; right = h .1 .0; constant = h .1 .1 }, λ h. (h .left, (h .right, h .constant)))
+
 abbrev pub inRange? : (v : Variable) → Dec (InRange v)
 inRange? v =
-    by (λ h. record { low = h .0; high = h .1 .0; weight = h .1 .1 }, λ h. (h .low, (h .high, h .weight)))
+    by (rangeParts v)
     (both (within? bound (v .low)) (both (within? bound (v .high)) (within? 1000000 (v .weight))))
 
 abbrev pub coefficients? : (e : Equation) → Dec (Coefficients e)
 coefficients? e =
-    by (λ h. record { left = h .0; right = h .1 .0; constant = h .1 .1 }, λ h. (h .left, (h .right, h .constant)))
+    by (coefficientParts e)
     (both (within? 1000000 (e .a)) (both (within? 1000000 (e .b)) (within? 2000000000000000 (e .c))))
 
 abbrev pub misnamed? : (n : ℕ) (e : Equation) → Dec (Misnamed n e)

@@ -1,13 +1,11 @@
 -- Calls that lend a map (document 02, #101) through the definitions: verdict and both areas, bytes worked out by hand.
-use mathlib.Core.Path.{_≡_, refl, ap}
+use mathlib.Core.Path.{_≡_, refl}
 use mathlib.Core.Option.{Option, some, none}
 use mathlib.Core.List.{List, [], _∷_, _++_, map}
 use Prim.Native.Nat.{ℕ, _+_}
 use lib.ListN.{length, take}
 use lib.IntN.{ℤ, pos}
-use Rattle.lists.specs.Members.{_∈_}
 use Rattle.lists.specs.Table.{table}
-use Rattle.lists.proofs.Maps.{same-values}
 use Rattle.bytes.specs.LittleEndian.{unsigned, u16, u32}
 use Rattle.jobs.specs.Call.{Areas, Call, areasOf, callOf}
 use Rattle.jobs.specs.Job.{jobOf, equation}
@@ -153,13 +151,9 @@ given v = (verdict (called v), areasAfter (called v))
 abbrev expected : MapVector → Verdict × Areas
 expected v = (v .verdict, v .after)
 
--- the definitions give what was worked out, at all of them together, and so at each
+-- the definitions give what was worked out, at each of them
 abbrev pub Worked : List MapVector → Type 0
 Worked vs = map given vs ≡ map expected vs
-
-pub at-each : {vs : List MapVector} → Worked vs → (v : MapVector) → v ∈ vs →
-    (verdict (callOf (v .job) (v .lent)) ≡ v .verdict) × (areasAfter (callOf (v .job) (v .lent)) ≡ v .after)
-at-each w v h = let e = same-values given expected w h in (ap (λ p. p .0) e, ap (λ p. p .1) e)
 
 pub map-worked : Worked mapVectors
 unfolding verdict areasAfter table

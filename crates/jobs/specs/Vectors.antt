@@ -1,15 +1,13 @@
 -- Small jobs through the definitions, byte for byte. What is expected of each was worked out by hand from documents 01 and 02; a row of
 -- a sheet stands on a line, under its fields.
-use mathlib.Core.Path.{_≡_, refl, ap}
+use mathlib.Core.Path.{_≡_, refl}
 use mathlib.Core.Option.{none}
 use mathlib.Core.List.{List, [], _∷_, _++_, map}
 use Prim.Native.Nat.{ℕ, _+_}
 use lib.ListN.{length, take}
 use lib.IntN.{ℤ, pos, _+ℤ_, _*ℤ_}
-use Rattle.lists.specs.Members.{_∈_}
 use Rattle.lists.specs.Table.{table}
 use Rattle.lists.specs.Lexicographic.{now, later}
-use Rattle.lists.proofs.Maps.{same-values}
 use Rattle.bytes.specs.LittleEndian.{u16, u32}
 use Rattle.jobs.specs.Call.{Areas, Call, areasOf, callOf}
 use Rattle.jobs.specs.Job.{Job, jobOf}
@@ -311,13 +309,10 @@ given v = (verdict (called v), areasAfter (called v))
 abbrev expected : Vector → Verdict × Areas
 expected v = (v .verdict, areasOf (v .after) none)
 
-computed : map given vectors ≡ map expected vectors
-unfolding verdict areasAfter table
-computed = refl
-
 -- the definitions give what was worked out, at each of them
-pub worked : (v : Vector) → v ∈ vectors → (verdict (called v) ≡ v .verdict) × (areasAfter (called v) ≡ areasOf (v .after) none)
-worked v h = let e = same-values given expected computed h in (ap (λ p. p .0) e, ap (λ p. p .1) e)
+pub worked : map given vectors ≡ map expected vectors
+unfolding verdict areasAfter table
+worked = refl
 
 -- ---- the tie-break, at lists of three
 abbrev three : ℕ → ℕ → ℕ → List ℤ
@@ -382,9 +377,6 @@ defined v =
       gains = map (λ l. slope (componentJob j l)) (leads j);
     }
 
-read-computed : map onSheet fitted ≡ map defined fitted
+pub read-off : map onSheet fitted ≡ map defined fitted
 unfolding verdict areasAfter table
-read-computed = refl
-
-pub read-off : (v : Vector) → v ∈ fitted → onSheet v ≡ defined v
-read-off v h = same-values onSheet defined read-computed h
+read-off = refl

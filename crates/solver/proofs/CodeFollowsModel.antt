@@ -19,11 +19,11 @@ use Rattle.runs.specs.Workings.{CarryLimits}
 use Rattle.families.specs.FamilyRun.{FamilyRun}
 use Rattle.jobs.specs.declared.Equation.{Equation}
 use Rattle.jobs.specs.Job.{Job, form, variable, equation}
-use Rattle.jobs.specs.NormalForm.{Binary, normal, normalRow}
+use Rattle.jobs.specs.NormalForm.{normal, normalRow}
 use Rattle.jobs.specs.ReasonTable.{Coefficients}
 use Rattle.jobs.specs.Component.{merged, lowestBy, lowest}
 use Rattle.jobs.specs.Lawful.{LawfulJob, LawfulEquation}
-use Rattle.jobs.proofs.NormalForm.{binary?, normal-binary, normal-unary, normal-left-below, normal-right-below, normal-carries}
+use Rattle.jobs.proofs.NormalForm.{normal-cases, normal-left-below, normal-right-below, normal-carries}
 use Rattle.jobs.proofs.Components.{Merged, first, second, other, merged-cases, merged-one, lowestBy-le, lowestBy-self}
 use Rattle.families.specs.Model.{State, labelAt, runAt, Indices as Pair, interval, startState, through, bothSides, cycle, join, commonNumbers, runAfter, kept, change, next, stateAfter, stateAfterAll}
 use Rattle.jobs.specs.Family.{familyRun}
@@ -149,19 +149,15 @@ module _ (j : Job) (k : ℕ) (labels : List ℕ) (n : ℕ) (a : Labels j k n lab
 
 -- ---- how large a coefficient of a lawful row is in normal form
 normal-combines : {e : Equation} → Coefficients e → Combinable (form (normal e))
-normal-combines {e} f = go (binary? e)
-  where
-    go : Dec (Binary e) → Combinable (form (normal e))
-    go (yes b) = rw (normal-binary e b) (record {
-      left = lin (e .a ∷ []) (f .left) (search facts depth 20) (omega arith);
-      right = lin (e .b ∷ []) (f .right) (search facts depth 20) (omega arith);
-      constant = f .constant;
-    })
-    go (no n) = rw (normal-unary e n) (record {
-      left = lin (e .a ∷ e .b ∷ []) (f .left & f .right) (search facts depth 20) (omega arith);
-      right = record { size = omega arith };
-      constant = f .constant;
-    })
+normal-combines {e} f = normal-cases e (λ n. Combinable (form n)) (λ b. record {
+  left = lin (e .a ∷ []) (f .left) (search facts depth 20) (omega arith);
+  right = lin (e .b ∷ []) (f .right) (search facts depth 20) (omega arith);
+  constant = f .constant;
+}) (λ u. record {
+  left = lin (e .a ∷ e .b ∷ []) (f .left & f .right) (search facts depth 20) (omega arith);
+  right = record { size = omega arith };
+  constant = f .constant;
+})
 
 -- ---- one equation more
 -- what is known at equation k of a lawful job with n variables, whose row in normal form is e
