@@ -8,19 +8,25 @@ use crate::rewrite;
 use planner::Lent;
 use planner::Outcome;
 
-/// Plans a job: any bytes, and any areas.
-pub fn plan(job: &[u8], area: &mut [u8], map: &mut [u8], lent: Lent) -> Outcome
-    ensures { λ r. ⌜ CannotBeBettered (callOf (now (job .entry)) (areasIn lent (now (area .entry)) (now (map .entry)))) (verdictOf r) (areasIn lent (now (area .exit)) (now (map .exit))) ⌝ }
+/// Plans a job with its amendments: any bytes, and any areas.
+pub fn plan(job: &[u8], amendments: &[u8], area: &mut [u8], map: &mut [u8], lent: Lent) -> Outcome
+    ensures { λ r. ⌜ CannotBeBettered (callOf (now (job .entry)) (now (amendments .entry)) (areasIn lent (now (area .entry)) (now (map .entry)))) (verdictOf r) (areasIn lent (now (area .exit)) (now (map .exit))) ⌝ }
 {
-    planner::plan(job, area, map, lent)
+    planner::plan(job, amendments, area, map, lent)
 }
 
 // Bytes of a sheet are written again: the number of count 0, and that of count 1 in a group apart from it.
-fn plan_rewritten(job: &[u8], area: &mut [u8], map: &mut [u8], lent: Lent) -> Outcome
-    ensures { λ r. ⌜ CannotBeBettered (callOf (now (job .entry)) (areasIn lent (now (area .entry)) (now (map .entry)))) (verdictOf r) (areasIn lent (now (area .exit)) (now (map .exit))) ⌝ }
+fn plan_rewritten(
+    job: &[u8],
+    amendments: &[u8],
+    area: &mut [u8],
+    map: &mut [u8],
+    lent: Lent,
+) -> Outcome
+    ensures { λ r. ⌜ CannotBeBettered (callOf (now (job .entry)) (now (amendments .entry)) (areasIn lent (now (area .entry)) (now (map .entry)))) (verdictOf r) (areasIn lent (now (area .exit)) (now (map .exit))) ⌝ }
 {
     let low = rewrite::get(job, 36);
-    let outcome = planner::plan(job, area, map, lent);
+    let outcome = planner::plan(job, amendments, area, map, lent);
     let planned = rewrite::is_planned(outcome);
     let first = rewrite::get(area, 24);
     rewrite::put(area, planned, 24, first);

@@ -23,7 +23,8 @@ use Rattle.runs.specs.Run.{bound}
 use Rattle.families.specs.FamilyRun.{FamilyRun}
 use Rattle.jobs.specs.Decide.{equal?, firstOf}
 use Rattle.jobs.specs.Call.{Areas, Call, onLent}
-use Rattle.jobs.specs.Job.{Job, jobOf, variable}
+use Rattle.jobs.specs.Job.{Job, variable}
+use Rattle.jobs.specs.Amendments.{jobIn}
 use Rattle.jobs.specs.Solution.{number, objective, best}
 use Rattle.jobs.specs.Component.{lowest, leads, component}
 use Rattle.jobs.specs.Family.{componentJob, fits, step, chosen, slope, familyRun}
@@ -154,7 +155,7 @@ same-outcome none {e} {k} {w} {z} f = ap (λ e. outcome none e w) (f refl .0) �
 
 module _ (c : Call) where
   abbrev j : Job
-  j = jobOf (c .job)
+  j = jobIn c
 
   pub verdict-by : verdictBy c ≡ verdict c
   unfolding verdictBy

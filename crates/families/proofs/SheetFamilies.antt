@@ -17,7 +17,8 @@ use Rattle.runs.specs.Run.{bound}
 use Rattle.families.specs.FamilyRun.{FamilyRun}
 use Rattle.bytes.specs.LittleEndian.{u16}
 use Rattle.jobs.specs.Call.{Call}
-use Rattle.jobs.specs.Job.{Job, jobOf}
+use Rattle.jobs.specs.Job.{Job}
+use Rattle.jobs.specs.Amendments.{jobIn}
 use Rattle.jobs.specs.Solution.{number, IsSolution, objective, best}
 use Rattle.jobs.specs.Component.{lowest, leads, component}
 use Rattle.jobs.specs.Family.{componentJob, fits, base, step, chosen, slope, familyRun}
@@ -212,8 +213,8 @@ module _ (j : Job) (lawful : LawfulJob j) (full : firstWithout j ≡ none) (rest
 
 -- ---- so of any call
 module _ (c : Call) where
-  families-on : (w : ℤ) → verdict c ≡ planned w → (rest : List ℕ) → FamiliesOn (jobOf (c .job)) (laidOut (findings (jobOf (c .job))) ++ rest)
-  families-on w e = let (o, h) = planned-when c w e in families-laid (jobOf (c .job)) (lawful-of c o) (h .0)
+  families-on : (w : ℤ) → verdict c ≡ planned w → (rest : List ℕ) → FamiliesOn (jobIn c) (laidOut (findings (jobIn c)) ++ rest)
+  families-on w e = let (o, h) = planned-when c w e in families-laid (jobIn c) (lawful-of c o) (h .0)
 
   pub definitions-give-fits : GivesFits c (verdict c) (areasAfter c)
   definitions-give-fits = gives-fits c families-on

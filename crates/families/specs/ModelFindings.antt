@@ -13,7 +13,8 @@ use Rattle.lists.specs.Table.{table, upTo}
 use Rattle.runs.specs.declared.Run.{Run}
 use Rattle.jobs.specs.Decide.{equal?, firstOf}
 use Rattle.jobs.specs.Call.{Areas, Call}
-use Rattle.jobs.specs.Job.{Job, jobOf, variable}
+use Rattle.jobs.specs.Job.{Job, variable}
+use Rattle.jobs.specs.Amendments.{amended, jobIn}
 use Rattle.jobs.specs.Component.{leads, component}
 use Rattle.jobs.specs.Findings.{Findings}
 use Rattle.jobs.specs.Faults.{firstBroken}
@@ -78,9 +79,9 @@ modelEmpty j = let t = stateAfterAll j in emptyBy (length (j .variables)) (label
 
 -- of all that a call is given. How the job hangs together is the definitions' own: they compute it without a search.
 unfoldable pub verdictBy : Call → Verdict
-unfolding firstBroken jobOf leads stateAfterAll emptyBy objectiveBy
-verdictBy c = let j = jobOf (c .job) in outcome (firstBroken c) (modelEmpty j) (modelFindings j .objective)
+unfolding firstBroken amended leads stateAfterAll emptyBy objectiveBy
+verdictBy c = let j = jobIn c in outcome (firstBroken c) (modelEmpty j) (modelFindings j .objective)
 
 unfoldable pub modelAreas : Call → Areas
-unfolding jobOf stateAfterAll verdictBy sheetAfter mapAfter leadsBy componentBy slopeBy chosenBy numberBy objectiveBy leads component degreeBy kind
-modelAreas c = let j = jobOf (c .job) in areasBy (modelFindings j) (structure j) (verdictBy c) (c .lent)
+unfolding amended stateAfterAll verdictBy sheetAfter mapAfter leadsBy componentBy slopeBy chosenBy numberBy objectiveBy leads component degreeBy kind
+modelAreas c = let j = jobIn c in areasBy (modelFindings j) (structure j) (verdictBy c) (c .lent)

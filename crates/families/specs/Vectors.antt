@@ -150,7 +150,7 @@ abbrev pub leadsOf : State → List ℕ
 leadsOf s = keep (λ i. eqb (labelAt s i) i) (upTo (length (s .labels)))
 
 abbrev given : Worked → Answer × (State × (ℕ × ℕ))
-given v = let s = stateAfterAll (jobOf (v .job)) in (checked (v .job), (s, (length (leadsOf s), componentCount (jobOf (v .job)))))
+given v = let s = stateAfterAll (jobOf (v .job)) in (checked (v .job) [], (s, (length (leadsOf s), componentCount (jobOf (v .job)))))
 
 abbrev expected : Worked → Answer × (State × (ℕ × ℕ))
 expected v = (accepted, (record { labels = v .labels; runs = v .runs }, (v .g, v .g)))
@@ -161,7 +161,7 @@ marked-computed = refl
 
 -- the job check accepts each of them, the model gives what was worked out, and as many groups as the definition
 pub marked : (v : Worked) → v ∈ markedJobs →
-    (checked (v .job) ≡ accepted) × ((stateAfterAll (jobOf (v .job)) ≡ record { labels = v .labels; runs = v .runs }) ×
+    (checked (v .job) [] ≡ accepted) × ((stateAfterAll (jobOf (v .job)) ≡ record { labels = v .labels; runs = v .runs }) ×
     ((length (leadsOf (stateAfterAll (jobOf (v .job)))) ≡ v .g) × (componentCount (jobOf (v .job)) ≡ v .g)))
 marked v h =
     let e = same-values given expected marked-computed h in

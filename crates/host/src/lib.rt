@@ -5,6 +5,7 @@
 //! and nothing checks the one against the other: change both.
 
 ghost use mathlib.Core.Path.{_≡_};
+ghost use mathlib.Core.List.{[]};
 ghost use Rattle.ints.specs.Division.{division};
 ghost use Rattle.runs.specs.Workings.{meeting, carrying};
 ghost use Rattle.jobs.specs.Call.{callOf};
@@ -59,27 +60,37 @@ pub struct FitWorking {
     pub run: FitRun,
 }
 
-/// Plans a job. The lowest bit of `lent` says that the map area is lent; the others say nothing.
+/// Plans a job with its amendments. The lowest bit of `lent` says that the map area is lent; the others say nothing. Its name changes with
+/// its parameters, so that a host compiled for others does not link.
 #[no_mangle]
-pub extern "C" fn fit_plan_call(
+pub extern "C" fn fit_plan_v2(
     job: &[u8],
+    amendments: &[u8],
     area: &mut [u8],
     map: &mut [u8],
     lent: u32,
 ) -> FitOutcome
-    ensures { λ r. ⌜ PlansFor (callOf (now (job .entry)) (areasIn (lentBy lent) (now (area .entry)) (now (map .entry)))) r (areasIn (lentBy lent) (now (area .exit)) (now (map .exit))) ⌝ }
+    ensures { λ r. ⌜ PlansFor (callOf (now (job .entry)) (now (amendments .entry)) (areasIn (lentBy lent) (now (area .entry)) (now (map .entry)))) r (areasIn (lentBy lent) (now (area .exit)) (now (map .exit))) ⌝ }
     ensures { λ _. ⌜ UntouchedUnless (lentBy lent .map) (now (map .entry)) (now (map .exit)) ⌝ }
 {
-    let outcome = planner::plan(job, area, map, answers::lent_by(lent));
+    let outcome = planner::plan(job, amendments, area, map, answers::lent_by(lent));
     answers::outcome_for(outcome)
 }
 
 /// The job check: as the planner through reason 7.
 #[no_mangle]
 pub extern "C" fn fit_check(job: &[u8]) -> FitChecked
-    ensures { λ r. ⌜ r ≡ checkedFor (checked (now (job .entry))) ⌝ }
+    ensures { λ r. ⌜ r ≡ checkedFor (checked (now (job .entry)) []) ⌝ }
 {
     answers::checked_for(jobs::check(job))
+}
+
+/// The check of a job and its amendments: as the planner through the amendments' reasons, 11, 12, 13 and 5.
+#[no_mangle]
+pub extern "C" fn fit_check_amendments(job: &[u8], amendments: &[u8]) -> FitChecked
+    ensures { λ r. ⌜ r ≡ checkedFor (checked (now (job .entry)) (now (amendments .entry))) ⌝ }
+{
+    answers::checked_for(jobs::check_amended(job, amendments))
 }
 
 /// n / d rounded towards the lower whole number.

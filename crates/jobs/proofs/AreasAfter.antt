@@ -8,7 +8,8 @@ use lib.ListN.{length, length-append, length-drop}
 use lib.IntN.{ℤ}
 use Rattle.lists.proofs.Places.{drop-past}
 use Rattle.jobs.specs.Call.{Call, onLent}
-use Rattle.jobs.specs.Job.{Job, jobOf}
+use Rattle.jobs.specs.Job.{Job}
+use Rattle.jobs.specs.Amendments.{jobIn}
 use Rattle.jobs.specs.Findings.{Findings, findings}
 use Rattle.jobs.specs.Structure.{Structure, structure}
 use Rattle.jobs.specs.SheetOffsets.{sheetLength}
@@ -88,20 +89,20 @@ module _ (t : Structure) where
 
 module _ (c : Call) where
   abbrev j : Job
-  j = jobOf (c .job)
+  j = jobIn c
 
-  pub by : {v : Verdict} → verdict c ≡ v → areasAfter c ≡ areasBy (findings (jobOf (c .job))) (structure (jobOf (c .job))) v (c .lent)
+  pub by : {v : Verdict} → verdict c ≡ v → areasAfter c ≡ areasBy (findings (jobIn c)) (structure (jobIn c)) v (c .lent)
   unfolding areasAfter
   by e = ap (λ v. areasBy (findings j) (structure j) v (c .lent)) e
 
-  pub if-planned : {w : ℤ} → verdict c ≡ planned w → areasAfter c .sheet ≡ onLent (atFront (laidOut (findings (jobOf (c .job))))) (c .lent .sheet)
+  pub if-planned : {w : ℤ} → verdict c ≡ planned w → areasAfter c .sheet ≡ onLent (atFront (laidOut (findings (jobIn c)))) (c .lent .sheet)
   unfolding sheetAfter
   if-planned e = ap (λ x. x .sheet) (by e)
 
   pub if-noFit : {l : ℕ} → verdict c ≡ noFit l → areasAfter c .sheet ≡ c .lent .sheet
   if-noFit {l} e = ap (λ x. x .sheet) (by e) ∙ sheet-noFit (findings j) l (c .lent .sheet)
 
-  pub if-mapped : {v : Verdict} → verdict c ≡ v → Mapped v → areasAfter c .map ≡ onLent (atFront (mapOf (structure (jobOf (c .job))))) (c .lent .map)
+  pub if-mapped : {v : Verdict} → verdict c ≡ v → Mapped v → areasAfter c .map ≡ onLent (atFront (mapOf (structure (jobIn c)))) (c .lent .map)
   if-mapped {v} e h = ap (λ x. x .map) (by e) ∙ map-written (structure j) v h (c .lent .map)
 
   pub if-refused : {p q : ℕ} → verdict c ≡ refused p q → areasAfter c ≡ c .lent
@@ -109,14 +110,14 @@ module _ (c : Call) where
       by e ∙ ap₂ (λ o r. record { sheet = o; map = r }) (sheet-refused (findings j) p q (c .lent .sheet)) (map-refused (structure j) p q (c .lent .map))
 
   -- what lies past the sheet, and past the map
-  pub past-sheet : ((w : ℤ) → verdict c ≡ planned w → ¬ Shorter (c .lent .sheet) (sheetLength (jobOf (c .job)))) → KeptFrom (sheetLength (jobOf (c .job))) (c .lent .sheet) (areasAfter c .sheet)
+  pub past-sheet : ((w : ℤ) → verdict c ≡ planned w → ¬ Shorter (c .lent .sheet) (sheetLength (jobIn c))) → KeptFrom (sheetLength (jobIn c)) (c .lent .sheet) (areasAfter c .sheet)
   unfolding areasAfter
   past-sheet h =
       let e = length-laidOut (findings j) in
       subst (λ n. KeptFrom n (c .lent .sheet) (areasAfter c .sheet)) e
       (sheet-kept (findings j) (verdict c) (c .lent .sheet) (λ w q. subst (λ n. ¬ Shorter (c .lent .sheet) n) (sym e) (h w q)))
 
-  pub past-map : (Mapped (verdict c) → ¬ Shorter (c .lent .map) (mapLength (jobOf (c .job)))) → KeptFrom (mapLength (jobOf (c .job))) (c .lent .map) (areasAfter c .map)
+  pub past-map : (Mapped (verdict c) → ¬ Shorter (c .lent .map) (mapLength (jobIn c))) → KeptFrom (mapLength (jobIn c)) (c .lent .map) (areasAfter c .map)
   unfolding areasAfter
   past-map h =
       let e = length-map (structure j) in

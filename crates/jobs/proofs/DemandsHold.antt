@@ -17,7 +17,8 @@ use Rattle.lists.proofs.Table.{length-table, table-at}
 use Rattle.lists.proofs.Sums.{sum-within}
 use Rattle.runs.specs.Run.{bound}
 use Rattle.jobs.specs.Call.{Call}
-use Rattle.jobs.specs.Job.{Job, jobOf, variable}
+use Rattle.jobs.specs.Job.{Job, variable}
+use Rattle.jobs.specs.Amendments.{jobIn}
 use Rattle.jobs.specs.Solution.{number, IsSolution, objective, Optimal, best}
 use Rattle.jobs.specs.SheetOffsets.{groupRowsAt, sheetLength}
 use Rattle.jobs.specs.Component.{lowest, leads}
@@ -33,7 +34,8 @@ use Rattle.jobs.specs.MapLayout.{mapOf}
 use Rattle.jobs.specs.AreasAfter.{atFront, areasAfter}
 use Rattle.jobs.specs.Demands.{IfLent, KeptFrom, worthOn, numberOn, numbersOn, TurnsAway, NoneFits, BestOn, CannotBeBettered, FamiliesOn, NotTurnedAway, FitsOn, GivesFits, MapOn, ShowsMap}
 use Rattle.jobs.proofs.Faults.{found-iff, sound-iff}
-use Rattle.jobs.proofs.Lawful.{lawful-named, lawful}
+use Rattle.jobs.proofs.Lawful.{lawful-named}
+use Rattle.jobs.proofs.AmendedJob.{lawful-amended}
 use Rattle.bytes.proofs.TwosComplement.{within-fits}
 use Rattle.jobs.proofs.SheetFields.{number-back, worth-back, laidOut-back}
 use Rattle.jobs.proofs.MapFields.{map-on}
@@ -116,13 +118,13 @@ module _ (j : Job) (f : LawfulJob j) where
 
 module _ (c : Call) where
   abbrev job : Job
-  job = jobOf (c .job)
+  job = jobIn c
 
-  pub verdict-is : verdict c ≡ outcome (firstBroken c) (firstWithout (jobOf (c .job))) (objective (jobOf (c .job)) (best (jobOf (c .job))))
+  pub verdict-is : verdict c ≡ outcome (firstBroken c) (firstWithout (jobIn c)) (objective (jobIn c) (best (jobIn c)))
   unfolding verdict
   verdict-is = refl
 
-  pub planned-when : (w : ℤ) → verdict c ≡ planned w → (firstBroken c ≡ none) × ((firstWithout (jobOf (c .job)) ≡ none) × (objective (jobOf (c .job)) (best (jobOf (c .job))) ≡ w))
+  pub planned-when : (w : ℤ) → verdict c ≡ planned w → (firstBroken c ≡ none) × ((firstWithout (jobIn c) ≡ none) × (objective (jobIn c) (best (jobIn c)) ≡ w))
   planned-when w e = was-planned (objective job (best job)) (firstBroken c) (firstWithout job) w (sym verdict-is ∙ e)
 
   noFit-when : (l : ℕ) → verdict c ≡ noFit l → (firstBroken c ≡ none) × (firstWithout job ≡ some l)
@@ -155,11 +157,11 @@ module _ (c : Call) where
       long w e = sound-iff c .0 (planned-when w e .0) ShortArea
 
   -- ---- the third demand
-  pub lawful-of : firstBroken c ≡ none → LawfulJob (jobOf (c .job))
-  lawful-of e = lawful c e .job
+  pub lawful-of : firstBroken c ≡ none → LawfulJob (jobIn c)
+  lawful-of e = lawful-amended c e
 
   -- what stands on a sheet that is planned
-  pub on-sheet : (P : List ℕ → Type 0) (w : ℤ) → verdict c ≡ planned w → ((rest : List ℕ) → P (laidOut (findings (jobOf (c .job))) ++ rest)) → IfLent (areasAfter c .sheet) P
+  pub on-sheet : (P : List ℕ → Type 0) (w : ℤ) → verdict c ≡ planned w → ((rest : List ℕ) → P (laidOut (findings (jobIn c)) ++ rest)) → IfLent (areasAfter c .sheet) P
   on-sheet P w e h = subst (λ o. IfLent o P) (sym (if-planned c e)) (if-lent P (atFront (laidOut (findings job))) (λ area. h (drop (length (laidOut (findings job))) area)) (c .lent .sheet))
 
   pub cannot-be-bettered : CannotBeBettered c (verdict c) (areasAfter c)
@@ -187,7 +189,7 @@ module _ (c : Call) where
       shown e m o = subst (λ o. IfLent o (MapOn job)) (sym (if-mapped c e m)) (if-lent (MapOn job) (atFront (mapOf (structure job))) (λ area. map-on job (lawful-of o) (drop (length (mapOf (structure job))) area)) (c .lent .map))
 
   -- ---- of the second: "no fit" only when there is none
-  pub no-fit-only : (l : ℕ) → verdict c ≡ noFit l → NoneFits (jobOf (c .job)) l × (areasAfter c .sheet ≡ c .lent .sheet)
+  pub no-fit-only : (l : ℕ) → verdict c ≡ noFit l → NoneFits (jobIn c) l × (areasAfter c .sheet ≡ c .lent .sheet)
   no-fit-only l e = let (o, h) = noFit-when l e in (none-fits job (lawful-of o) l h, if-noFit c e)
 
   -- a call that is not turned away is planned or has no fit
@@ -200,7 +202,7 @@ module _ (c : Call) where
       go (refused reason row) e = absurd (p reason row (turns-away .exactly reason row .0 e))
 
   -- so of the second only the families are left
-  module _ (families : (w : ℤ) → verdict c ≡ planned w → (rest : List ℕ) → FamiliesOn (jobOf (c .job)) (laidOut (findings (jobOf (c .job))) ++ rest)) where
+  module _ (families : (w : ℤ) → verdict c ≡ planned w → (rest : List ℕ) → FamiliesOn (jobIn c) (laidOut (findings (jobIn c)) ++ rest)) where
     fits-on : (w : ℤ) → verdict c ≡ planned w → (rest : List ℕ) → FitsOn job (laidOut (findings job) ++ rest)
     fits-on w e rest =
         let (o, (full, z)) = planned-when w e in

@@ -61,6 +61,15 @@ module _ {A : Type 0} {P : A → Type 0} (d : (x : A) → Dec (P x)) where
       go none e = first-past xs ys e ∙ h ∙ sym e
       go (some z) e = first-stays xs ys e ∙ sym e
 
+  -- nor do members in between
+  pub first-drop : (xs ys zs : List A) → firstOf d ys ≡ none → firstOf d ((xs ++ ys) ++ zs) ≡ firstOf d (xs ++ zs)
+  first-drop [] ys zs h = first-past ys zs h
+  first-drop (x ∷ xs) ys zs h = go (d x) (first-drop xs ys zs h)
+    where
+      go : Dec (P x) → firstOf d ((xs ++ ys) ++ zs) ≡ firstOf d (xs ++ zs) → firstOf d (x ∷ ((xs ++ ys) ++ zs)) ≡ firstOf d (x ∷ (xs ++ zs))
+      go (yes p) e = first-here x ((xs ++ ys) ++ zs) p ∙ sym (first-here x (xs ++ zs) p)
+      go (no n) e = first-later x ((xs ++ ys) ++ zs) n ∙ e ∙ sym (first-later x (xs ++ zs) n)
+
   -- what is found stands behind members of which P does not hold
   pub first-iff : (xs : List A) (x : A) → (firstOf d xs ≡ some x) ↔ First P xs x
   first-iff xs x = (out xs, λ f. rw (f .listed) (first-past (f .earlier) (x ∷ f .later) (holds-none (f .earlier) (f .none-before)) ∙ first-here x (f .later) (f .holds)))

@@ -14,6 +14,7 @@ use Rattle.jobs.specs.Job.{Equation, Job, jobOf, RowsInside, variableCou
 use Rattle.jobs.specs.ReasonTable.{Misnamed, Broken, headerChecks}
 use Rattle.jobs.specs.Lawful.{LawfulEquation, LawfulJob, Lawful}
 use Rattle.jobs.specs.Call.{Call}
+use Rattle.jobs.specs.Amendments.{jobIn}
 use Rattle.jobs.specs.Component.{componentCount}
 use Rattle.jobs.specs.Decide.{firstOf}
 use Rattle.jobs.specs.Faults.{header?, inRange?, coefficients?, breaks?, firstBroken}
@@ -22,7 +23,7 @@ use Rattle.jobs.proofs.FirstOf.{none-holds, holds-none}
 use Rattle.jobs.proofs.Faults.{sound-iff}
 
 -- what can be decided and is not false holds
-decided : {P : Type 0} → Dec P → ¬ ¬ P → P
+pub decided : {P : Type 0} → Dec P → ¬ ¬ P → P
 decided (yes p) h = p
 decided (no n) h = absurd (h n)
 
@@ -31,7 +32,7 @@ module _ (c : Call) where
   s = c .job
 
   abbrev g : ℕ
-  g = componentCount (jobOf s)
+  g = componentCount (jobIn c)
 
   pub rows-inside : firstOf (breaks? c) headerChecks ≡ none → RowsInside (c .job)
   rows-inside e = record {

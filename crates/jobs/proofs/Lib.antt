@@ -11,6 +11,8 @@ pub mod Branches
 pub mod FirstOf
 -- the checks of the rows, row by row
 pub mod RowChecks
+-- what a pass over rows answers is their first fault: `pass-fault`
+pub mod FirstRow
 -- two variables are joined exactly when their lowest joined variables are the same (`joined-iff`, `lowest-least`); an equation
 -- joins two sets exactly when they differ (`joins-iff`); components are numbered in their order (`component-at`, `component-lead`)
 pub mod Components
@@ -26,6 +28,11 @@ pub mod Faults
 pub mod Lawful
 -- a job with other bounds: what of it stays
 pub mod WithBounds
+-- amendment sheets that keep their rules: the last for a variable is in force (`last-in-force`), and no other (`one-in-force`)
+pub mod AmendmentsInForce
+-- the job as amended: at most one sheet in force for each variable (`at-most-one`), whose bounds it has (`with-sheet`), or its row's
+-- (`without-sheet`); it is lawful (`lawful-amended`), and without amendments the job itself (`amended-by-none`)
+pub mod AmendedJob
 -- the tie-break is a strict total order: `earlier-asym`, `earlier-trans`, `earlier-compared`; solutions in its order (`earliest-first`)
 pub mod TieBreak
 -- the exhaustive list has just the solutions (`in-solutions`), rising; "better" is a strict total order (`better-trans`,
@@ -48,13 +55,17 @@ pub mod SheetFields
 -- where the fields of a map stand, and that they show how the job hangs together (`map-on`); structures that agree are laid out alike
 -- (`same-map`)
 pub mod MapFields
+-- jobs with the same equations have one map: `map-same`
+pub mod SameEquations
 -- every area after a call, case by case: `if-planned`, `if-refused`, `past-sheet`, `past-map`
 pub mod AreasAfter
 -- the definitions keep the demands (`turns-away`, `cannot-be-bettered`, `shows-map`; of the second all but the families, `gives-fits`)
 pub mod DemandsHold
--- verdict and areas, case by case, from what the job check answers: `as-checked`, `too-short`, `map-too-short`, `as-fitting`
+-- verdict and areas, case by case, from the first fault of a call: `as-broken`, `as-fitting`
 pub mod Outcomes
--- of a list longer than any lawful job the first part is answered as the whole: `longer-same`
+-- a call without amendments is answered as before there were any: `verdict-before`, `areas-before`
+pub mod NoAmendments
+-- of lists longer than any lawful job, or any lawful amendments, the first part is answered as the whole: `longer-same`
 pub mod LongInput
 -- the sham planners of document 01, each refused by the demand that is named beside it
 pub mod Shams

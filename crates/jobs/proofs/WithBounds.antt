@@ -1,10 +1,10 @@
 -- A job with other bounds: what of it stays.
-use mathlib.Core.Path.{_≡_, refl, sym, subst}
+use mathlib.Core.Path.{_≡_, refl, sym, ap, subst}
 use mathlib.Core.List.{List}
 use Prim.Native.Nat.{ℕ, _<_}
 use native.Mathlib.Omega.{arith}
 use lib.ListN.{length, getD}
-use Rattle.lists.proofs.Table.{length-table, table-at}
+use Rattle.lists.proofs.Table.{length-table, table-at, same-table}
 use Rattle.jobs.specs.Job.{Variable, Job, variable, equation, noVariable}
 use Rattle.jobs.specs.ReasonTable.{InRange}
 use Rattle.jobs.specs.Lawful.{LawfulJob, LawfulEquation}
@@ -25,6 +25,14 @@ module _ (j : Job) (bounds : List Bounds) where
   pub variable-with : (i : ℕ) → i < length (j .variables) → variable (withBounds j bounds) i ≡ v i
   unfolding withBounds
   variable-with i h = table-at v (length (j .variables)) i noVariable h
+
+  -- bounds that are the same at every variable make the same job
+  pub with-same : (others : List Bounds) → ((i : ℕ) → i < length (j .variables) → getD bounds i noBounds ≡ getD others i noBounds) → withBounds j bounds ≡ withBounds j others
+  unfolding withBounds
+  with-same others e = λ t. record { variables = same t; equations = j .equations }
+    where
+      same : withBounds j bounds .variables ≡ withBounds j others .variables
+      same = same-table noVariable v (λ i. record { low = getD others i noBounds .low; high = getD others i noBounds .high; weight = variable j i .weight }) refl (λ i h. ap (λ b. record { low = b .low; high = b .high; weight = variable j i .weight }) (e i h))
 
   -- bounds in range keep a job lawful
   pub lawful-with : LawfulJob j → BoundedBy bounds (length (j .variables)) → LawfulJob (withBounds j bounds)

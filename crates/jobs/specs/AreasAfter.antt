@@ -3,7 +3,7 @@ use mathlib.Core.List.{List, _++_}
 use Prim.Native.Nat.{ℕ}
 use lib.ListN.{length, drop}
 use Rattle.jobs.specs.Call.{Areas, Call, onLent}
-use Rattle.jobs.specs.Job.{jobOf}
+use Rattle.jobs.specs.Amendments.{amended, jobIn}
 use Rattle.jobs.specs.Solution.{best}
 use Rattle.jobs.specs.Component.{leads, component}
 use Rattle.jobs.specs.Family.{componentJob, chosen, slope, familyRun}
@@ -37,5 +37,5 @@ abbrev pub areasBy : Findings → Structure → Verdict → Areas → Areas
 areasBy f t v lent = record { sheet = onLent (sheetAfter f v) (lent .sheet); map = onLent (mapAfter t v) (lent .map) }
 
 unfoldable pub areasAfter : Call → Areas
-unfolding verdict sheetAfter mapAfter jobOf leads component familyRun best componentJob chosen slope degreeBy kind
-areasAfter c = let j = jobOf (c .job) in areasBy (findings j) (structure j) (verdict c) (c .lent)
+unfolding verdict sheetAfter mapAfter amended leads component familyRun best componentJob chosen slope degreeBy kind
+areasAfter c = let j = jobIn c in areasBy (findings j) (structure j) (verdict c) (c .lent)

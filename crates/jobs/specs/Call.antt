@@ -9,14 +9,15 @@ pub record Areas : Type 0 where
   pub sheet : Option (List ℕ)
   pub map : Option (List ℕ)
 
--- all that a call is given
+-- all that a call is given: the job's bytes, those of its amendments (no bytes: none), and the areas
 pub record Call : Type 0 where
   pub job : List ℕ
+  pub amendments : List ℕ
   pub lent : Areas
 
--- the job check is the call that lends nothing
-abbrev pub lendingNothing : List ℕ → Call
-lendingNothing s = record { job = s; lent = record { sheet = none; map = none } }
+-- the check of a job and its amendments is the call that lends nothing, and the job check has no amendments either
+abbrev pub lendingNothing : List ℕ → List ℕ → Call
+lendingNothing s a = record { job = s; amendments = a; lent = record { sheet = none; map = none } }
 
 -- an area is lent where the flag says so
 abbrev pub lentAs : Bool → List ℕ → Option (List ℕ)
@@ -27,8 +28,8 @@ lentAs false area = none
 abbrev pub areasOf : List ℕ → Option (List ℕ) → Areas
 areasOf area map = record { sheet = some area; map = map }
 
-abbrev pub callOf : List ℕ → Areas → Call
-callOf s lent = record { job = s; lent = lent }
+abbrev pub callOf : List ℕ → List ℕ → Areas → Call
+callOf s a lent = record { job = s; amendments = a; lent = lent }
 
 -- an area that is lent, written to; one that is not lent stays so
 abbrev pub onLent : (List ℕ → List ℕ) → Option (List ℕ) → Option (List ℕ)

@@ -13,7 +13,8 @@ use lib.Signed.{_≤ℤ_, _<ℤ_}
 use Rattle.lists.specs.Table.{table}
 use Rattle.bytes.specs.LittleEndian.{unsigned, u16, u32, i32, i64}
 use Rattle.jobs.specs.Call.{Areas, Call}
-use Rattle.jobs.specs.Job.{Job, jobOf, variable, equation}
+use Rattle.jobs.specs.Job.{Job, variable, equation}
+use Rattle.jobs.specs.Amendments.{jobIn}
 use Rattle.jobs.specs.Solution.{number, value, IsSolution, objective, Optimal}
 use Rattle.jobs.specs.SheetOffsets.{groupRowsAt}
 use Rattle.jobs.specs.MapOffsets.{mapEquationsAt, mapLength}
@@ -90,8 +91,8 @@ memberOn j after g k = partOn j after g (λ i. baseOn after i +ℤ stepOn after 
 pub record TurnsAway (c : Call) (v : Verdict) (x : Areas) : Type 0 where
   pub exactly : (reason row : ℕ) → (v ≡ refused reason row) ↔ Reported c reason row
   pub untouched : (reason row : ℕ) → v ≡ refused reason row → x ≡ c .lent
-  pub past-sheet : (g : ℕ) (group : ℕ → ℕ) → Numbered (jobOf (c .job)) g group → KeptFrom (groupRowsAt (jobOf (c .job)) + 16 * g) (c .lent .sheet) (x .sheet)
-  pub past-map : KeptFrom (mapLength (jobOf (c .job))) (c .lent .map) (x .map)
+  pub past-sheet : (g : ℕ) (group : ℕ → ℕ) → Numbered (jobIn c) g group → KeptFrom (groupRowsAt (jobIn c) + 16 * g) (c .lent .sheet) (x .sheet)
+  pub past-map : KeptFrom (mapLength (jobIn c)) (c .lent .map) (x .map)
 
 -- ---- demand 2, the installer
 
@@ -149,9 +150,9 @@ pub record FitsOn (j : Job) (after : List ℕ) : Type 0 where
 -- for a call not turned away the verdict is planned or no fit: a fit-out is given when one exists, "no fit" only when none does
 pub record GivesFits (c : Call) (v : Verdict) (x : Areas) : Type 0 where
   pub one-of : NotTurnedAway c → ((w : ℤ) × (v ≡ planned w)) ⊎ ((l : ℕ) × (v ≡ noFit l))
-  pub exists : NotTurnedAway c → (y : List ℤ) → IsSolution (jobOf (c .job)) y → (w : ℤ) × (v ≡ planned w)
-  pub given : (w : ℤ) → v ≡ planned w → IfLent (x .sheet) (FitsOn (jobOf (c .job)))
-  pub no-fit : (l : ℕ) → v ≡ noFit l → NoneFits (jobOf (c .job)) l × (x .sheet ≡ c .lent .sheet)
+  pub exists : NotTurnedAway c → (y : List ℤ) → IsSolution (jobIn c) y → (w : ℤ) × (v ≡ planned w)
+  pub given : (w : ℤ) → v ≡ planned w → IfLent (x .sheet) (FitsOn (jobIn c))
+  pub no-fit : (l : ℕ) → v ≡ noFit l → NoneFits (jobIn c) l × (x .sheet ≡ c .lent .sheet)
 
 -- ---- demand 3, the buyer: the numbers keep every tie and bound of the whole job, the worth shown is exactly theirs, and every
 -- other solution of the job has less worth, or equal worth and comes later: where the two first differ it has the lower number
@@ -163,7 +164,7 @@ pub record BestOn (j : Job) (w : ℤ) (after : List ℕ) : Type 0 where
   pub shown : worthOn after ≡ w
 
 pub record CannotBeBettered (c : Call) (v : Verdict) (x : Areas) : Type 0 where
-  pub best : (w : ℤ) → v ≡ planned w → IfLent (x .sheet) (BestOn (jobOf (c .job)) w)
+  pub best : (w : ℤ) → v ≡ planned w → IfLent (x .sheet) (BestOn (jobIn c) w)
 
 -- ---- demand of the repair bench (document 02, #101 and #102): a map area that is lent shows how the job hangs together, on planned and
 -- on no fit; j says how many rows there are
@@ -197,8 +198,8 @@ pub record MapOn (j : Job) (after : List ℕ) : Type 0 where
   pub fixes : (k : ℕ) → k < length (j .equations) → (kindOn j after k ≡ 3) ↔ (¬ Binary (equation j k))
 
 pub record ShowsMap (c : Call) (v : Verdict) (x : Areas) : Type 0 where
-  pub fit : (w : ℤ) → v ≡ planned w → IfLent (x .map) (MapOn (jobOf (c .job)))
-  pub no-fit : (l : ℕ) → v ≡ noFit l → IfLent (x .map) (MapOn (jobOf (c .job)))
+  pub fit : (w : ℤ) → v ≡ planned w → IfLent (x .map) (MapOn (jobIn c))
+  pub no-fit : (l : ℕ) → v ≡ noFit l → IfLent (x .map) (MapOn (jobIn c))
 
 -- ---- all that is promised of a planning call: verdict and areas are those of the definitions, and keep the demands
 pub record Plans (c : Call) (v : Verdict) (x : Areas) : Type 0 where

@@ -24,6 +24,10 @@ plain high = count (plus 0) (plus high) (plus 0)
 abbrev pub equationBytes : ℕ → ℕ → List ℕ → List ℕ → ℕ → List ℕ
 equationBytes left right a b c = left ∷ 0 ∷ right ∷ 0 ∷ [] ++ a ++ b ++ c ∷ 0 ∷ 0 ∷ 0 ∷ 0 ∷ 0 ∷ 0 ∷ 0 ∷ []
 
+-- of an amendment: its serial number, what it supersedes, its count, and its bounds
+abbrev pub amendmentBytes : ℕ → ℕ → ℕ → List ℕ → List ℕ → List ℕ
+amendmentBytes serial supersedes variable low high = plus serial ++ plus supersedes ++ variable ∷ 0 ∷ 0 ∷ 0 ∷ [] ++ low ++ high
+
 -- left + right = c and left − right = c
 abbrev pub total : ℕ → ℕ → ℕ → List ℕ
 total left right c = equationBytes left right (plus 1) (plus 1) c

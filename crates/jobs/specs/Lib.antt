@@ -1,10 +1,17 @@
 -- What a job is, when it is turned away, what a plan of it is, and what is demanded of one. Read in this order. To be believed is
--- all of it but the decisions in Decide and Faults, Lawful, Bounds, JobBytes, and Vectors, MapVectors and UnaryVectors, which are theorems.
+-- all of it but the decisions in Decide and Faults, Lawful, FirstRow, AmendmentPasses, JobBytes, and Vectors, MapVectors, UnaryVectors
+-- and AmendmentVectors, which are theorems.
 
 -- all that a call is given
 pub mod Call
 -- the bytes of a job as variables and equations
 pub mod Job
+-- a job with other bounds
+pub mod Bounds
+-- statements that can be decided
+pub mod Decide
+-- amendment sheets: which are in force, and the job as amended
+pub mod Amendments
 -- which equations join two counts, and which group any other belongs to
 pub mod NormalForm
 -- of two fit-outs of equal worth, which comes first
@@ -24,8 +31,6 @@ pub mod SheetOffsets
 pub mod MapOffsets
 -- the table of reasons, and its order
 pub mod ReasonTable
--- statements that can be decided
-pub mod Decide
 -- the first reason that applies, and the answer of the job check
 pub mod Faults
 -- the outcome of a plan
@@ -39,8 +44,9 @@ pub mod AreasAfter
 pub mod Demands
 -- a job that the table does not turn away, as inner functions ask for it
 pub mod Lawful
--- a job with other bounds, likewise
-pub mod Bounds
+-- what a pass over rows answers, and what is known of amendments meanwhile, likewise
+pub mod FirstRow
+pub mod AmendmentPasses
 -- the bytes of small jobs and maps
 pub mod JobBytes
 -- small jobs through all of them, and calls that lend a map
@@ -48,3 +54,5 @@ pub mod Vectors
 pub mod MapVectors
 -- and jobs with equations that join no two counts
 pub mod UnaryVectors
+-- and jobs with amendments
+pub mod AmendmentVectors

@@ -143,7 +143,7 @@ mapVectors =
     record { job = falling; lent = record { sheet = none; map = some (freshMap 36) }; verdict = planned (pos 2); after = record { sheet = none; map = some tiedMap } } ∷ []
 
 abbrev called : MapVector → Call
-called v = callOf (v .job) (v .lent)
+called v = callOf (v .job) [] (v .lent)
 
 abbrev given : MapVector → Verdict × Areas
 given v = (verdict (called v), areasAfter (called v))

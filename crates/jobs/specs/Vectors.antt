@@ -301,7 +301,7 @@ vectors =
 
 -- the call that lends it, and no map
 abbrev pub called : Vector → Call
-called v = callOf (v .job) (areasOf (v .area) none)
+called v = callOf (v .job) [] (areasOf (v .area) none)
 
 abbrev given : Vector → Verdict × Areas
 given v = (verdict (called v), areasAfter (called v))

@@ -7,7 +7,8 @@ use Rattle.reasons.specs.declared.Reason.{Reason}
 use Rattle.reasons.specs.Numbers.{numberOf, rowOf}
 use Rattle.jobs.specs.Decide.{equal?, firstOf}
 use Rattle.jobs.specs.Call.{Call}
-use Rattle.jobs.specs.Job.{Job, jobOf}
+use Rattle.jobs.specs.Job.{Job}
+use Rattle.jobs.specs.Amendments.{amended, jobIn}
 use Rattle.jobs.specs.Faults.{firstBroken}
 use Rattle.jobs.specs.Solution.{objective, best}
 use Rattle.jobs.specs.Component.{leads}
@@ -34,5 +35,5 @@ abbrev pub fitting : Job → Verdict
 fitting j = outcome none (firstWithout j) (objective j (best j))
 
 unfoldable pub verdict : Call → Verdict
-unfolding firstBroken firstWithout objective best jobOf
-verdict c = let j = jobOf (c .job) in outcome (firstBroken c) (firstWithout j) (objective j (best j))
+unfolding firstBroken firstWithout objective best amended
+verdict c = let j = jobIn c in outcome (firstBroken c) (firstWithout j) (objective j (best j))

@@ -3,6 +3,7 @@
 ghost use mathlib.Core.Path.{_≡_};
 ghost use mathlib.Core.Bool.{true};
 ghost use mathlib.Core.Logic.{_↔_};
+ghost use mathlib.Core.List.{[]};
 ghost use Prim.Native.Nat.{_≤_};
 ghost use lib.ListN.{length, take};
 ghost use Rattle.jobs.specs.Call.{lendingNothing};
@@ -31,7 +32,7 @@ pub fn equation_count(job: &[u8]) -> usize
 
 /// The first fault of the header, of reasons 1 to 4.
 pub(crate) fn check(job: &[u8]) -> Checked
-    ensures { λ r. ⌜ faultOf r ≡ firstOf (breaks? (lendingNothing (now (job .entry)))) headerChecks ⌝ }
+    ensures { λ r. ⌜ faultOf r ≡ firstOf (breaks? (lendingNothing (now (job .entry)) [])) headerChecks ⌝ }
 {
     if job.len() < 24 {
         return Checked::Refused(Reason::ShortJob);

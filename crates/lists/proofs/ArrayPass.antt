@@ -1,11 +1,17 @@
 -- A pass over an array, place by place: what has been done, and what is still to come.
 use mathlib.Core.Path.{_≡_, refl, _∙_}
 use mathlib.Core.List.{List}
-use Prim.Native.Nat.{ℕ, _+_, _≤_, _<_}
+use Prim.Native.Nat.{ℕ, zero, suc, _+_, _≤_, _<_}
 use native.Mathlib.Omega.{arith}
 use native.Mathlib.Decide.{ℕ-discrete, decLt}
-use lib.ListN.{length, getD, set, length-set}
+use lib.ListN.{length, getD, set, replicate, length-set}
 use lib.Seq.{getD-set-same, getD-set-other}
+
+-- ---- an array that has the same everywhere
+pub all-same : {A : Type 0} (n i : ℕ) (x : A) → getD (replicate n x) i x ≡ x
+all-same zero i x = refl
+all-same (suc n) zero x = refl
+all-same (suc n) (suc i) x = all-same n i x
 
 -- ---- of an array of this size the places before i have f
 pub record Filled {A : Type 0} (size : ℕ) (d : A) (f : ℕ → A) (i : ℕ) (xs : List A) : Type 0 where

@@ -20,7 +20,7 @@ use Rattle.solver.specs.StateArrays.{labelIn}
 use Rattle.solver.specs.Labels.{Lowest}
 use Rattle.solver.specs.Structured.{Structured}
 use Rattle.solver.specs.declared.structure.Structure.{Structure}
-use Rattle.solver.proofs.AcceptedJob.{vars, ties, label-is, leads-are}
+use Rattle.solver.proofs.LabelsOfJob.{vars, ties, label-is, leads-are}
 use Rattle.planner.specs.Mapping.{AllBelow, structureIn}
 
 module _ (s : List ℕ) (n m : ℕ) (p : n ≡ variableCount s) (q : m ≡ equationCount s) (lawful : Lawful s) (t : Structure) (f : Structured (jobOf s) m n t) where

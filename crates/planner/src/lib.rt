@@ -5,13 +5,15 @@
 ghost use mathlib.Core.Path.{_≡_};
 ghost use Prim.Native.Nat.{_+_, _*_, _≤_};
 ghost use lib.ListN.{length};
-ghost use Rattle.jobs.specs.Call.{callOf};
+ghost use mathlib.Core.Option.{none};
+ghost use Rattle.jobs.specs.Call.{callOf, lendingNothing};
 ghost use Rattle.jobs.specs.Job.{jobOf, variableCount, equationCount};
+ghost use Rattle.jobs.specs.Amendments.{amended};
 ghost use Rattle.jobs.specs.Solution.{number};
 ghost use Rattle.jobs.specs.Component.{componentCount};
 ghost use Rattle.jobs.specs.SheetOffsets.{sheetLength};
 ghost use Rattle.jobs.specs.Lawful.{Lawful};
-ghost use Rattle.jobs.specs.Faults.{accepted, checked};
+ghost use Rattle.jobs.specs.Faults.{firstBroken};
 ghost use Rattle.jobs.specs.Findings.{findings};
 ghost use Rattle.jobs.specs.Verdict.{planned, fitting, verdict};
 ghost use Rattle.jobs.specs.SheetLayout.{laidOut};
@@ -22,11 +24,12 @@ ghost use Rattle.solver.specs.StateArrays.{labelIn, runIn};
 ghost use Rattle.solver.specs.Labels.{Lowest};
 ghost use Rattle.bytes.specs.Over.{over};
 ghost use Rattle.planner.specs.Choice.{Members, NoneEmpty, AllWithin};
-ghost use Rattle.planner.specs.Outcome.{verdictOf};
+ghost use Rattle.planner.specs.Outcome.{verdictOf, refusalOf};
 ghost use Rattle.planner.specs.Lending.{areasIn};
 ghost use Rattle.planner.specs.Survey.{Surveyed};
 use choose::Found;
 use jobs::Checked;
+use jobs::amendments;
 use jobs::header;
 use reasons::Reason;
 use solver::State;
@@ -69,25 +72,28 @@ pub struct Lent {
     pub map: bool,
 }
 
-/// Plans a job: any bytes, and any areas. The verdict and the areas afterwards are those of the definitions, and they keep the
-/// demands of the service port, of the installer, of the buyer and of the repair bench. A map area that is not lent stays as it is.
-pub fn plan(job: &[u8], area: &mut [u8], map: &mut [u8], lent: Lent) -> Outcome
-    ensures { λ r. ⌜ Plans (callOf (now (job .entry)) (areasIn lent (now (area .entry)) (now (map .entry)))) (verdictOf r) (areasIn lent (now (area .exit)) (now (map .exit))) ⌝ }
+/// Plans a job with its amendments: any bytes, and any areas. The verdict and the areas afterwards are those of the definitions, and they
+/// keep the demands of the service port, of the installer, of the buyer and of the repair bench; a refusal has the first reason of the
+/// table whose rule is broken. A map area that is not lent stays as it is.
+pub fn plan(job: &[u8], amendments: &[u8], area: &mut [u8], map: &mut [u8], lent: Lent) -> Outcome
+    ensures { λ r. ⌜ Plans (callOf (now (job .entry)) (now (amendments .entry)) (areasIn lent (now (area .entry)) (now (map .entry)))) (verdictOf r) (areasIn lent (now (area .exit)) (now (map .exit))) ⌝ }
+    ensures { λ r. ⌜ refusalOf r ≡ firstBroken (callOf (now (job .entry)) (now (amendments .entry)) (areasIn lent (now (area .entry)) (now (map .entry)))) ⌝ }
     ensures { λ _. ⌜ UntouchedUnless (lent .map) (now (map .entry)) (now (map .exit)) ⌝ }
 {
-    let checked = jobs::check(job);
+    let checked = jobs::check_amended(job, amendments);
     match checked {
         Checked::Refused(reason) => Outcome::Refused(reason),
-        Checked::Accepted => fitted(job, area, map, lent),
+        Checked::Accepted => fitted(job, amendments, area, map, lent),
     }
 }
 
-// The plan of a job that the check accepts. Whether the areas are long enough is asked before any fit is sought and anything written.
-fn fitted(job: &[u8], area: &mut [u8], map: &mut [u8], lent: Lent) -> Outcome
-    requires { ⌜ Lawful (now job) ⌝ }
-    requires { ⌜ checked (now job) ≡ accepted ⌝ }
-    ensures { λ r. ⌜ verdictOf r ≡ verdict (callOf (now (job .entry)) (areasIn lent (now (area .entry)) (now (map .entry)))) ⌝ }
-    ensures { λ _. ⌜ areasIn lent (now (area .exit)) (now (map .exit)) ≡ areasAfter (callOf (now (job .entry)) (areasIn lent (now (area .entry)) (now (map .entry)))) ⌝ }
+// The plan of a job that the check accepts, with its amendments. Whether the areas are long enough is asked before any fit is sought and
+// anything written.
+fn fitted(job: &[u8], amendments: &[u8], area: &mut [u8], map: &mut [u8], lent: Lent) -> Outcome
+    requires { ⌜ firstBroken (lendingNothing (now job) (now amendments)) ≡ none ⌝ }
+    ensures { λ r. ⌜ verdictOf r ≡ verdict (callOf (now (job .entry)) (now (amendments .entry)) (areasIn lent (now (area .entry)) (now (map .entry)))) ⌝ }
+    ensures { λ _. ⌜ areasIn lent (now (area .exit)) (now (map .exit)) ≡ areasAfter (callOf (now (job .entry)) (now (amendments .entry)) (areasIn lent (now (area .entry)) (now (map .entry)))) ⌝ }
+    ensures { λ r. ⌜ refusalOf r ≡ firstBroken (callOf (now (job .entry)) (now (amendments .entry)) (areasIn lent (now (area .entry)) (now (map .entry)))) ⌝ }
     ensures { λ _. ⌜ UntouchedUnless (lent .map) (now (map .entry)) (now (map .exit)) ⌝ }
 {
     let n = header::variable_count(job);
@@ -97,7 +103,7 @@ fn fitted(job: &[u8], area: &mut [u8], map: &mut [u8], lent: Lent) -> Outcome
     match survey {
         Survey::ShortArea => Outcome::Refused(Reason::ShortArea),
         Survey::ShortMap => Outcome::Refused(Reason::ShortMap),
-        Survey::Mapped(g) => solved(job, area, n, m, g),
+        Survey::Mapped(g) => solved(job, amendments, area, n, m, g),
     }
 }
 
@@ -123,18 +129,20 @@ fn surveyed(job: &[u8], map: &mut [u8], lent: bool, n: usize, m: usize, room: us
 }
 
 // The plan of a job with n variables in g components and m equations, into an area that is long enough.
-fn solved(job: &[u8], area: &mut [u8], n: usize, m: usize, g: usize) -> Outcome
-    requires { ⌜ Lawful (now job) ⌝ }
+fn solved(job: &[u8], amendments: &[u8], area: &mut [u8], n: usize, m: usize, g: usize) -> Outcome
+    requires { ⌜ firstBroken (lendingNothing (now job) (now amendments)) ≡ none ⌝ }
     requires { ⌜ n ≡ variableCount (now job) ⌝ }
     requires { ⌜ m ≡ equationCount (now job) ⌝ }
-    requires { ⌜ g ≡ componentCount (jobOf (now job)) ⌝ }
-    requires { ⌜ sheetLength (jobOf (now job)) ≤ length (now area) ⌝ }
-    ensures { λ r. ⌜ verdictOf r ≡ fitting (jobOf (now (job .entry))) ⌝ }
-    ensures { λ _. ⌜ now (area .exit) ≡ sheetAfter (findings (jobOf (now (job .entry)))) (fitting (jobOf (now (job .entry)))) (now (area .entry)) ⌝ }
+    requires { ⌜ g ≡ componentCount (amended (now job) (now amendments)) ⌝ }
+    requires { ⌜ sheetLength (amended (now job) (now amendments)) ≤ length (now area) ⌝ }
+    ensures { λ r. ⌜ verdictOf r ≡ fitting (amended (now (job .entry)) (now (amendments .entry))) ⌝ }
+    ensures { λ _. ⌜ now (area .exit) ≡ sheetAfter (findings (amended (now (job .entry)) (now (amendments .entry)))) (fitting (amended (now (job .entry)) (now (amendments .entry)))) (now (area .entry)) ⌝ }
+    ensures { λ r. ⌜ refusalOf r ≡ none ⌝ }
 {
     let rows = variables::read(job, n);
-    let bounds = rows.bounds;
+    let own = rows.bounds;
     let weights = rows.weights;
+    let bounds = amendments::overlay(amendments, own, n);
     let state = equations::families(job, bounds, n, m);
     let runs = state.runs;
     let empty = choose::first_empty(runs, n);
@@ -155,6 +163,7 @@ fn written(area: &mut [u8], weights: [i64; 256], state: State, n: usize, g: usiz
     requires { ⌜ 24 + 16 * n + 16 * g ≤ length (now area) ⌝ }
     ensures { λ r. ⌜ verdictOf r ≡ planned (findingsBy n (number weights) (labelIn (state .labels)) (runIn (state .runs)) .objective) ⌝ }
     ensures { λ _. ⌜ now (area .exit) ≡ over 0 (laidOut (findingsBy n (number weights) (labelIn (state .labels)) (runIn (state .runs)))) (now (area .entry)) ⌝ }
+    ensures { λ r. ⌜ refusalOf r ≡ none ⌝ }
 {
     let labels = state.labels;
     let runs = state.runs;

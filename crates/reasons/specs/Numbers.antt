@@ -1,7 +1,7 @@
 -- Document 01, the table of reasons, with document 02's: the number of each case, and the row that is reported with it.
 use Prim.Native.Nat.{ℕ}
 use Rattle.reasons.specs.declared.Reason.{Reason}
-use Rattle.reasons.specs.declared.Reason.the-variants.{ShortJob, WrongMark, TooMany, WrongHeader, VariableRange, EquationVariables, EquationRange, ShortArea, WrongArgument, ShortMap}
+use Rattle.reasons.specs.declared.Reason.the-variants.{ShortJob, WrongMark, TooMany, WrongHeader, VariableRange, EquationVariables, EquationRange, ShortArea, WrongArgument, ShortMap, AmendmentsLength, AmendmentZero, AmendmentReference, AmendmentTwice, AmendmentRange}
 
 abbrev pub numberOf : Reason → ℕ
 numberOf ShortJob = 1
@@ -14,6 +14,12 @@ numberOf (EquationRange row) = 7
 numberOf ShortArea = 8
 numberOf WrongArgument = 9
 numberOf ShortMap = 10
+numberOf AmendmentsLength = 11
+numberOf (AmendmentZero row) = 11
+numberOf (AmendmentReference row) = 12
+numberOf (AmendmentTwice row) = 13
+-- "bounds out of range, in force or not, give reason 5"
+numberOf (AmendmentRange row) = 5
 
 -- "For the other reasons the row is 0."
 abbrev pub rowOf : Reason → ℕ
@@ -27,3 +33,8 @@ rowOf (EquationRange row) = row
 rowOf ShortArea = 0
 rowOf WrongArgument = 0
 rowOf ShortMap = 0
+rowOf AmendmentsLength = 0
+rowOf (AmendmentZero row) = row
+rowOf (AmendmentReference row) = row
+rowOf (AmendmentTwice row) = row
+rowOf (AmendmentRange row) = row

@@ -6,8 +6,8 @@
 ghost use mathlib.Core.Path.{_≡_};
 ghost use Rattle.reasons.specs.Numbers.{numberOf, rowOf};
 
-/// The reasons of document 01's table, in its order, and those that document 02 adds. A case that the table reports with a row carries that row.
-/// What the papers call a count is a variable here.
+/// The reasons of document 01's table, in its order, and those that document 02 adds. A case that the table reports with a row carries that row;
+/// two cases may share a number. What the papers call a count is a variable here.
 pub enum Reason {
     /// The job has fewer bytes than its header.
     ShortJob,
@@ -29,6 +29,16 @@ pub enum Reason {
     WrongArgument,
     /// The map area is too short for the map.
     ShortMap,
+    /// The amendments are not of 20 bytes each, or more than 512.
+    AmendmentsLength,
+    /// The amendment has something in its zero field.
+    AmendmentZero(u16),
+    /// The amendment's number does not rise, its variable is not below n, or it supersedes what is not an earlier one for its variable.
+    AmendmentReference(u16),
+    /// The amendment is in force after another one in force for its variable.
+    AmendmentTwice(u16),
+    /// The amendment has a low or a high out of range.
+    AmendmentRange(u16),
 }
 
 impl Reason {
@@ -47,6 +57,11 @@ impl Reason {
             Reason::ShortArea => 8,
             Reason::WrongArgument => 9,
             Reason::ShortMap => 10,
+            Reason::AmendmentsLength => 11,
+            Reason::AmendmentZero(_) => 11,
+            Reason::AmendmentReference(_) => 12,
+            Reason::AmendmentTwice(_) => 13,
+            Reason::AmendmentRange(_) => 5,
         }
     }
 
@@ -65,6 +80,11 @@ impl Reason {
             Reason::ShortArea => 0,
             Reason::WrongArgument => 0,
             Reason::ShortMap => 0,
+            Reason::AmendmentsLength => 0,
+            Reason::AmendmentZero(row) => row,
+            Reason::AmendmentReference(row) => row,
+            Reason::AmendmentTwice(row) => row,
+            Reason::AmendmentRange(row) => row,
         }
     }
 }

@@ -16,13 +16,11 @@ pub mod JoinWidths
 pub mod ReducedRuns
 -- the arrays follow the model, equation by equation (`Follows`, `follows-reduced`), to the families (`follows-end`)
 pub mod CodeFollowsModel
--- with the bounds in its rows a job is the job itself: `own-bounds`
-pub mod OwnBounds
 -- the rows of a lawful job
 pub mod LawfulRows
 -- the pass over the equations, one at a time: `Through`, `begins`, `onward`
 pub mod StructurePass
 -- the arrays follow the model, for bytes and bounds
 pub mod FollowsWithBounds
--- a job that the check accepts is lawful (`accepts`), and what is read of it is its own (`counted`, `bounded`)
-pub mod AcceptedJob
+-- the labels of a job that is read are the definition's (`label-is`), and so many components there are (`counted`)
+pub mod LabelsOfJob

@@ -3,7 +3,7 @@ use mathlib.Core.Path.{_≡_, refl, sym, _∙_, ap, ap₂, subst}
 use mathlib.Core.Logic.{_≢_}
 use mathlib.Core.Bool.{Bool, true, false, cond, _||_, or-true}
 use mathlib.Core.List.{List}
-use Prim.Native.Nat.{ℕ, zero, suc, _+_, _≤_, _<_}
+use Prim.Native.Nat.{ℕ, _+_, _≤_, _<_}
 use native.Mathlib.Decide.{ℕ-discrete}
 use native.Mathlib.Omega.{arith}
 use lib.Dec.{eqb}
@@ -11,7 +11,7 @@ use lib.ListN.{length, getD, set, replicate, length-set, length-replicate}
 use lib.Seq.{getD-set-same, getD-set-other}
 use borrow.Author.Tests.{eq-eqb, ne-eqb}
 use Rattle.lists.specs.Table.{Tabulates}
-use Rattle.lists.proofs.ArrayPass.{Filled, unfilled, filled}
+use Rattle.lists.proofs.ArrayPass.{all-same, Filled, unfilled, filled}
 use Rattle.jobs.specs.declared.Equation.{Equation}
 use Rattle.jobs.specs.Job.{Job, equation}
 use Rattle.jobs.specs.NormalForm.{Binary, home, isBinary, normal, normalRow}
@@ -30,16 +30,11 @@ pub record Through (j : Job) (n k : ℕ) (labels degrees homes kinds : List ℕ)
   pub belongs : Filled 1024 0 (λ k. home (equation j k)) k homes
   pub sorts : Filled 1024 0 (kind j) k kinds
 
-zeros : (n i : ℕ) → _≡_ {A = ℕ} (getD (replicate n 0) i 0) 0
-zeros zero i = refl
-zeros (suc n) zero = refl
-zeros (suc n) (suc i) = zeros n i
-
 pub begins : (j : Job) (n : ℕ) (labels : List ℕ) → Labels j 0 n labels → Through j n 0 labels (replicate 256 0) (replicate 1024 0) (replicate 1024 0)
 begins j n labels a = record {
   labelled = a;
   wide = length-replicate {A = ℕ} 256 0;
-  named = record { at = λ i h. zeros 256 i ∙ sym (degree-none j i) };
+  named = record { at = λ i h. all-same 256 i 0 ∙ sym (degree-none j i) };
   belongs = unfilled 0 (λ k. home (equation j k)) (replicate 1024 0) (length-replicate {A = ℕ} 1024 0);
   sorts = unfilled 0 (kind j) (replicate 1024 0) (length-replicate {A = ℕ} 1024 0);
 }

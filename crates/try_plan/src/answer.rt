@@ -34,7 +34,7 @@ pub(crate) fn refused(reason: u16, row: u16) -> Answer {
 
 /// The planner's own.
 pub(crate) fn of(job: &[u8], area: &mut [u8]) -> Answer {
-    let outcome = planner::plan(job, area, &mut [], Lent { map: false });
+    let outcome = planner::plan(job, &[], area, &mut [], Lent { map: false });
     match outcome {
         Outcome::Planned(worth) => new(PLANNED, residue(worth)),
         Outcome::NoFit(variable) => new(NO_FIT, variable as u64),

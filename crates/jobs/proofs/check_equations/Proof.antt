@@ -3,7 +3,7 @@ use denote.Ref.{now}
 use mathlib.Core.Path.{_≡_, sym, _∙_, subst}
 use mathlib.Core.Logic.{_↔_}
 use mathlib.Core.Bool.{Bool, true, false, false≢true}
-use mathlib.Core.List.{List, flatMap}
+use mathlib.Core.List.{List, [], flatMap}
 use Prim.Native.Nat.{ℕ, _-_, _≤_}
 use native.Mathlib.Omega.{arith}
 use Rattle.lists.specs.Table.{upTo}
@@ -27,7 +27,7 @@ module _ {n m : ℕ} {e f : Equation} {t : Bool} (p : n ≡ m) (q : e ≡ f) (te
   named h k = false≢true (sym h ∙ test .1 (rw (p, q) k))
 
 abbrev Inv-loop : tie.InvT-loop
-Inv-loop job n m k₀ k = (k ≤ m) × (firstOf (breaks? (lendingNothing job)) (flatMap equationChecks (upTo m)) ≡ ofEquations job k m)
+Inv-loop job n m k₀ k = (k ≤ m) × (firstOf (breaks? (lendingNothing job [])) (flatMap equationChecks (upTo m)) ≡ ofEquations job k m)
 
 abbrev μ-loop : tie.MeasureT-loop
 μ-loop job n m k₀ k = m - k

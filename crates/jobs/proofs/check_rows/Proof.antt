@@ -2,7 +2,7 @@
 use denote.Ref.{now}
 use mathlib.Core.Path.{_≡_, sym, _∙_, ap}
 use mathlib.Core.Option.{Option, some}
-use mathlib.Core.List.{List, flatMap}
+use mathlib.Core.List.{List, [], flatMap}
 use Prim.Native.Nat.{ℕ}
 use Rattle.reasons.specs.declared.Reason.{Reason}
 use Rattle.reasons.specs.declared.Reason.the-variants.{VariableRange}
@@ -22,7 +22,7 @@ use Rattle.jobs.proofs.check_rows.Tie as tie
 -- the fault of the rows, from what is answered of the variables' rows, and then of the equations' rows
 module _ (s : List ℕ) (n m : ℕ) (n-is : n ≡ variableCount s) (m-is : m ≡ equationCount s) where
   abbrev first : List Reason → Option Reason
-  first = firstOf (breaks? (lendingNothing s))
+  first = firstOf (breaks? (lendingNothing s []))
 
   abbrev variables : List Reason
   variables = table VariableRange (variableCount s)
@@ -32,11 +32,11 @@ module _ (s : List ℕ) (n m : ℕ) (n-is : n ≡ variableCount s) (m-is : m ≡
 
   refused : {v : Checked} {r : Reason} → faultOf v ≡ first (table VariableRange n) → v ≡ Refused r → some r ≡ first (rowChecks s)
   unfolding rowChecks
-  refused h e = sym (first-stays (breaks? (lendingNothing s)) variables _ (of-variables h e))
+  refused h e = sym (first-stays (breaks? (lendingNothing s [])) variables _ (of-variables h e))
 
   accepted : {v : Checked} {o : Option Reason} → faultOf v ≡ first (table VariableRange n) → v ≡ Accepted → o ≡ first (flatMap equationChecks (upTo m)) → o ≡ first (rowChecks s)
   unfolding rowChecks
-  accepted h e q = q ∙ ap (λ m. first (flatMap equationChecks (upTo m))) m-is ∙ sym (first-past (breaks? (lendingNothing s)) variables _ (of-variables h e))
+  accepted h e q = q ∙ ap (λ m. first (flatMap equationChecks (upTo m))) m-is ∙ sym (first-past (breaks? (lendingNothing s [])) variables _ (of-variables h e))
 
 returns : tie.Need-returns
 returns c =

@@ -1,6 +1,7 @@
 -- `check_variables` meets its contract: past each row that keeps its rules, what is left of the checks gives the same first fault.
 use denote.Ref.{now}
 use mathlib.Core.Path.{_≡_, sym, _∙_, subst}
+use mathlib.Core.List.{[]}
 use Prim.Native.Nat.{_-_, _≤_}
 use native.Mathlib.Omega.{arith}
 use Rattle.reasons.specs.declared.Reason.the-variants.{VariableRange}
@@ -16,7 +17,7 @@ use Rattle.jobs.proofs.check_variables.Statement.{statement}
 use Rattle.jobs.proofs.check_variables.Tie as tie
 
 abbrev Inv-loop : tie.InvT-loop
-Inv-loop job n i₀ i = (i ≤ n) × (firstOf (breaks? (lendingNothing job)) (table VariableRange n) ≡ ofVariables job i n)
+Inv-loop job n i₀ i = (i ≤ n) × (firstOf (breaks? (lendingNothing job [])) (table VariableRange n) ≡ ofVariables job i n)
 
 abbrev μ-loop : tie.MeasureT-loop
 μ-loop job n i₀ i = n - i

@@ -3,16 +3,15 @@ use mathlib.Core.Path.{_≡_, refl, sym, _∙_, ap, subst}
 use mathlib.Core.List.{List}
 use Prim.Native.Nat.{ℕ}
 use borrow.Author.Needs.{needs}
-use Rattle.reasons.specs.Numbers.{numberOf, rowOf}
 use Rattle.jobs.specs.Call.{Areas, Call, lentAs, areasOf, callOf}
-use Rattle.jobs.specs.Faults.{answerOf}
+use Rattle.jobs.specs.Faults.{faultOf}
 use Rattle.jobs.specs.Verdict.{Verdict, verdict}
 use Rattle.jobs.specs.AreasAfter.{areasAfter}
 use Rattle.jobs.specs.Demands.{TurnsAway, GivesFits, CannotBeBettered, ShowsMap, Plans}
-use Rattle.jobs.proofs.Outcomes.{as-checked}
+use Rattle.jobs.proofs.Faults.{fault-checked}
+use Rattle.jobs.proofs.Outcomes.{as-broken}
 use Rattle.jobs.proofs.DemandsHold.{turns-away, cannot-be-bettered, shows-map}
 use Rattle.families.proofs.SheetFamilies.{definitions-give-fits}
-use Rattle.solver.proofs.AcceptedJob.{accepts}
 use Rattle.planner.proofs.plan.Statement.{statement}
 use Rattle.planner.proofs.plan.Tie as tie
 
@@ -31,29 +30,26 @@ promised c {v} {x} p q = record {
     of P h = subst (λ v. P v x) (sym p) (subst (P (verdict c)) (sym q) h)
 
 abbrev call : tie.Start → Call
-call s = callOf (s .args .job .now) (areasOf (s .args .area .now) (lentAs (s .args .lent .map) (s .args .map .now)))
+call s = callOf (s .args .job .now) (s .args .amendments .now) (areasOf (s .args .area .now) (lentAs (s .args .lent .map) (s .args .map .now)))
 
 fitted-requires : tie.Need-fitted-requires
-fitted-requires c κs =
-    let e = c .before .before in
-    let k = e .before .before in
-    let s = k .before .before .before .before in
-    (accepts (s .args .job .now) (k .check .result) (k .check .ensures .1) (e .enum-told .given .1), sym (k .check .ensures .0) ∙ ap answerOf (e .enum-told .given .1))
+fitted-requires c κs = let e = c .before .before in sym (e .before .before .check-amended .ensures .0) ∙ ap faultOf (e .enum-told .given .1)
 
 returns : tie.Need-returns
 returns c =
     let k = c .before .before .before in
-    let s = k .before .before .before .before in
+    let s = k .before .before .before .before .before in
     let r = c .before .checked .given .0 .0 in
-    let (p, q) = as-checked (call s) (numberOf r) (rowOf r) (sym (k .check .ensures .0) ∙ ap answerOf (c .before .checked .given .1)) in
-    (promised (call s) (sym p) (sym q), λ e. refl)
+    let e = fault-checked (call s) r (sym (k .check-amended .ensures .0) ∙ ap faultOf (c .before .checked .given .1)) in
+    let (p, q) = as-broken (call s) r e in
+    (promised (call s) (sym p) (sym q), (sym e, λ e. refl))
 
 returns-2 : tie.Need-returns-2
 returns-2 c =
     let f = c .before .before .before .before in
-    let s = f .before .before .before .before .before .before .before .before .before in
+    let s = f .before .before .before .before .before .before .before .before .before .before in
     let e = f .fitted .ensures in
-    (promised (call s) (e .0) (e .1 .0), e .1 .1)
+    (promised (call s) (e .0) (e .1 .0), (e .1 .1 .0, e .1 .1 .1))
 
 pub plan-spec : {M : Type 1} → statement M
 plan-spec =

@@ -1,14 +1,21 @@
 -- `solved` meets its contract: where the area is long enough, the planner's verdict is no fit or planned.
-use mathlib.Core.Path.{_≡_, sym, _∙_, ap, subst}
+use mathlib.Core.Path.{_≡_, refl, sym, _∙_, ap, subst}
 use mathlib.Core.Option.{Option, none, some}
 use mathlib.Core.List.{List}
-use Prim.Native.Nat.{ℕ, _+_, _*_, _≤_}
+use Prim.Native.Nat.{ℕ, _+_, _*_, _≤_, _<_}
 use borrow.Author.Needs.{needs}
 use native.Mathlib.Omega.{arith}
 use lib.ListN.{length}
 use Rattle.ints.specs.Within.{Within}
+use lib.IntN.{ℤ}
+use Rattle.lists.specs.Table.{Tabulates}
+use Rattle.jobs.specs.Call.{Call, lendingNothing}
 use Rattle.jobs.specs.Job.{Job, jobOf}
-use Rattle.jobs.specs.Lawful.{LawfulJob}
+use Rattle.jobs.specs.Bounds.{noBounds, Bounded}
+use Rattle.jobs.specs.Amendments.{amendmentsOf, boundsInForce, amended}
+use Rattle.jobs.specs.ReasonTable.{Misreferenced}
+use Rattle.jobs.specs.Faults.{firstBroken}
+use Rattle.jobs.specs.Lawful.{LawfulJob, Lawful}
 use Rattle.jobs.specs.Findings.{findings}
 use Rattle.jobs.specs.Solution.{objective, best}
 use Rattle.jobs.specs.Verdict.{Verdict, planned, outcome, firstWithout, fitting}
@@ -19,7 +26,11 @@ use Rattle.solver.specs.Families.{Families}
 use Rattle.solver.specs.Labels.{Lowest}
 use Rattle.families.specs.ModelFindings.{leadsBy}
 use Rattle.planner.specs.Choice.{Members, NoneEmpty, AllWithin, FirstEmpty}
-use Rattle.solver.proofs.AcceptedJob.{vars, bounded, families}
+use Rattle.jobs.proofs.Lawful.{lawful as lawful-job}
+use Rattle.jobs.proofs.AmendmentsInForce.{amendments-of}
+use Rattle.jobs.proofs.AmendedJob.{amended-length, variable-amended, amended-with, referenced, bounded-in-force, lawful-amended, overlaid}
+use Rattle.solver.specs.VariableArrays.{BoundsOf, WeightsOf}
+use Rattle.solver.proofs.LabelsOfJob.{vars}
 use Rattle.planner.proofs.StateOfJob.{labels, members, counted, found, full, objective-best, area-best}
 use Rattle.planner.proofs.solved.Statement.{statement}
 use Rattle.planner.proofs.solved.Tie as tie
@@ -28,45 +39,101 @@ module _ (s : tie.Start) where
   abbrev job : List ℕ
   job = s .args .job .now
 
+  abbrev amendments : List ℕ
+  amendments = s .args .amendments .now
+
+  abbrev call : Call
+  call = lendingNothing job amendments
+
   abbrev j : Job
-  j = jobOf job
+  j = amended job amendments
 
   abbrev n : ℕ
   n = s .args .n
 
+  accepted : firstBroken call ≡ none
+  accepted = s .pre .0
+
+  rows-lawful : Lawful job
+  rows-lawful = lawful-job call accepted
+
   lawful : LawfulJob j
-  lawful = s .pre .0 .job
+  lawful = lawful-amended call accepted
+
+  n-rows : n ≡ length (jobOf job .variables)
+  n-rows = vars job n (s .args .m) (s .pre .1 .0) (s .pre .1 .1 .0)
 
   n-all : n ≡ length (j .variables)
-  n-all = vars job n (s .args .m) (s .pre .1 .0) (s .pre .1 .1 .0)
+  n-all = n-rows ∙ sym (amended-length job amendments)
+
+  -- the weights of its rows are its own
+  weights-are : (weights : List ℤ) → WeightsOf (jobOf job) n weights → WeightsOf j n weights
+  weights-are weights w = record { at = λ i h. w .at i h ∙ sym (ap (λ v. v .weight) (variable-amended job amendments i (omega (arith, h, n-rows)))) }
 
   -- the verdict, by whether a component is without a solution
   by-first : {o : Option ℕ} → firstWithout j ≡ o → fitting j ≡ outcome none o (objective j (best j))
   by-first e = ap (λ o. outcome none o (objective j (best j))) e
 
+read-requires : tie.Need-read-requires
+read-requires c κs = let s = c .before .before .before in (rows-lawful s .rows, s .pre .1 .0)
+
+overlay-requires : tie.Need-overlay-requires
+overlay-requires c κs =
+    let s = c .before .before .before .before .before .before in (
+      omega (arith, s .pre .1 .0, rows-lawful s .rows .variables),
+      record { at = λ t h m. referenced (call s) (accepted s) .at t (omega (arith, h, amendments-of (amendments s))) (subst (λ n. Misreferenced n (amendmentsOf (amendments s)) t) (s .pre .1 .0) m) },
+    )
+
+-- the bounds that are left are those in force
+module _ (c : tie.After-overlay) where
+  abbrev of-rows : tie.After-read
+  of-rows = c .before .before .before
+
+  abbrev at-start : tie.Start
+  at-start = of-rows .before .before .before .before
+
+  in-force : Tabulates noBounds (boundsInForce (jobOf (job at-start)) (amendmentsOf (amendments at-start))) (length (jobOf (job at-start) .variables)) (c .overlay .result)
+  in-force =
+      overlaid (call at-start) (accepted at-start) (of-rows .read .result .bounds) (c .overlay .result)
+      (subst (λ n. BoundsOf (jobOf (job at-start)) n (of-rows .read .result .bounds)) (n-rows at-start) (of-rows .read .ensures .0)) (c .overlay .ensures)
+
 families-requires : tie.Need-families-requires
 families-requires c κs =
-    let r = c .before .before in
-    let s = r .before .before .before in
-    (s .pre .0, (s .pre .1 .0, (s .pre .1 .1 .0, bounded (job s) (n s) (s .args .m) (s .pre .1 .0) (s .pre .1 .1 .0) (r .read .result .bounds) (r .read .ensures .0) (s .pre .0))))
+    let s = at-start c in (
+      rows-lawful s,
+      (
+        s .pre .1 .0,
+        (
+          s .pre .1 .1 .0,
+          record { at = λ i h. let b : i < length (jobOf (job s) .variables) = omega (arith, h, n-rows s) in subst Bounded (sym (in-force c .at i b)) (bounded-in-force (call s) (accepted s) i b) },
+        ),
+      ),
+    )
+
+first-empty-requires : tie.Need-first-empty-requires
+first-empty-requires c κs = let s = at-start (c .before .before) in omega (arith, s .pre .1 .0, rows-lawful s .rows .variables)
 
 -- with the families in hand
 module _ (c : tie.After-first-empty) where
   abbrev rows : tie.After-read
-  rows = c .before .before .before .before .before
+  rows = of-rows (c .before .before .before)
 
   abbrev start : tie.Start
-  start = rows .before .before .before
+  start = at-start (c .before .before .before)
 
   abbrev state : State
   state = c .before .before .families .result
 
   are-families : Families (j start) state
   are-families =
-      families (job start) (n start) (start .args .m) (start .pre .1 .0) (start .pre .1 .1 .0) (rows .read .result .bounds) (rows .read .ensures .0) state (c .before .before .families .ensures)
+      let o = c .before .before .before in
+      subst (λ j. Families j state) (amended-with (job start) (amendments start) (o .overlay .result) (in-force o)) (c .before .before .families .ensures)
+
+  weighs : WeightsOf (j start) (n start) (rows .read .result .weights)
+  weighs = weights-are start (rows .read .result .weights) (rows .read .ensures .1)
 
   weighed : AllWithin 1000000 (rows .read .result .weights) (n start)
-  weighed = record { at = λ i h. subst (Within 1000000) (sym (rows .read .ensures .1 .at i h)) (lawful start .each-variable i (omega (arith, h, n-all start)) .weight) }
+  weighed = record { at = λ i h. subst (Within 1000000) (sym (weighs .at i h)) (lawful start .each-variable i (omega (arith, h, n-all start)) .weight) }
 
   grouped : start .args .g ≡ length (leadsBy (labelIn (state .labels)) (n start))
   grouped = start .pre .1 .1 .1 .0 ∙ counted (j start) (lawful start) state are-families ∙ ap (λ k. length (leadsBy (labelIn (state .labels)) k)) (sym (n-all start))
@@ -78,7 +145,7 @@ written-requires : tie.Need-written-requires
 written-requires c κs =
     let e = c .before .before .before in
     let s = start e in (
-      omega (arith, s .pre .1 .0, s .pre .0 .rows .variables),
+      omega (arith, s .pre .1 .0, rows-lawful s .rows .variables),
       (
         weighed e,
         (
@@ -99,7 +166,7 @@ returns c =
     let l = c .before .empty .given .0 .0 in
     let f = subst (FirstEmpty (state e .runs) (n s)) (c .before .empty .given .1) (e .first-empty .ensures) in
     let v = by-first s (found (j s) (lawful s) (state e) (are-families e) l (omega (arith, f .0, n-all s)) (f .1 .0) (f .1 .1)) in
-    (sym v, ap (λ v. sheetAfter (findings (j s)) v (s .args .area .now)) (sym v))
+    (sym v, (ap (λ v. sheetAfter (findings (j s)) v (s .args .area .now)) (sym v), refl))
 
 returns-2 : tie.Need-returns-2
 unfolding sheetAfter
@@ -108,14 +175,17 @@ returns-2 c =
     let e = w .before .before .before .before in
     let s = start e in
     let f = subst (FirstEmpty (state e .runs) (n s)) (w .before .before .enum-told .given .1) (e .first-empty .ensures) in
-    let r = rows e .read in
+    let weights = rows e .read .result .weights in
     let v = by-first s (full (j s) (lawful s) (state e) (are-families e) (subst (NoneEmpty (state e .runs)) (n-all s) f)) in (
-      w .written .ensures .0 ∙ ap planned (objective-best (j s) (lawful s) (state e) (are-families e) (n-all s) (r .result .weights) (r .ensures .1) f) ∙ sym v,
-      w .written .ensures .1 ∙ area-best (j s) (lawful s) (state e) (are-families e) (n-all s) (r .result .weights) (r .ensures .1) f (s .args .area .now)
-          ∙ ap (λ v. sheetAfter (findings (j s)) v (s .args .area .now)) (sym v),
+      w .written .ensures .0 ∙ ap planned (objective-best (j s) (lawful s) (state e) (are-families e) (n-all s) weights (weighs e) f) ∙ sym v,
+      (
+        w .written .ensures .1 .0 ∙ area-best (j s) (lawful s) (state e) (are-families e) (n-all s) weights (weighs e) f (s .args .area .now)
+            ∙ ap (λ v. sheetAfter (findings (j s)) v (s .args .area .now)) (sym v),
+        w .written .ensures .1 .1,
+      ),
     )
 
 pub solved-spec : {M : Type 1} → statement M
 solved-spec =
     tie.close
-    (tie.spec (search needs) families-requires (search needs) (search needs) (search needs) written-requires returns (search needs) returns-2)
+    (tie.spec read-requires overlay-requires families-requires first-empty-requires (search needs) (search needs) written-requires returns (search needs) returns-2)

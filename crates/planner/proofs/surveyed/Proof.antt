@@ -15,7 +15,7 @@ use Rattle.jobs.specs.ReasonTable.{Shorter}
 use Rattle.jobs.proofs.Components.{length-leads}
 use Rattle.solver.specs.Structured.{Structured}
 use Rattle.solver.specs.declared.structure.Structure.{Structure}
-use Rattle.solver.proofs.AcceptedJob.{vars, ties, counted}
+use Rattle.solver.proofs.LabelsOfJob.{vars, ties, counted}
 use Rattle.planner.proofs.StructureOfJob.{labels, homes, map-is}
 use Rattle.planner.proofs.surveyed.Statement.{statement}
 use Rattle.planner.proofs.surveyed.Tie as tie

@@ -1,5 +1,5 @@
 -- `written` meets its contract: what is written is what the model finds.
-use mathlib.Core.Path.{_≡_, sym, _∙_, ap, subst}
+use mathlib.Core.Path.{_≡_, refl, sym, _∙_, ap, subst}
 use mathlib.Core.List.{List}
 use Prim.Native.Nat.{ℕ, _≤_, _<_}
 use borrow.Author.Needs.{needs}
@@ -82,9 +82,12 @@ returns c =
     let h : held (w .before .before .objective .result) ≡ objectiveIn weights (numbers k) (x .n) =
     ap held (w .before .before .objective .ensures) ∙ held-objective weights (numbers k) (x .n) (p .0) (p .1 .0) (within k 2000000000 (omega arith)) in (
       ap planned (h ∙ objective-is weights (x .state .labels) (x .state .runs) (x .n) (p .1 .1 .0) (p .1 .1 .1 .0) (slopes k) (k .before .slopes .ensures) (numbers k) (k .numbers .ensures)),
-      w .write .ensures
-          ∙ ap (λ v. over 0 (laidOut (findingsIn (x .state .labels) (x .state .runs) (slopes k) (numbers k) (x .n) v)) (x .area .now)) h
-          ∙ ap (λ b. over 0 b (x .area .now)) (same-layout (agree weights (x .state .labels) (x .state .runs) (x .n) (p .1 .1 .0) (p .1 .1 .1 .0) (slopes k) (k .before .slopes .ensures) (numbers k) (k .numbers .ensures))),
+      (
+        w .write .ensures
+            ∙ ap (λ v. over 0 (laidOut (findingsIn (x .state .labels) (x .state .runs) (slopes k) (numbers k) (x .n) v)) (x .area .now)) h
+            ∙ ap (λ b. over 0 b (x .area .now)) (same-layout (agree weights (x .state .labels) (x .state .runs) (x .n) (p .1 .1 .0) (p .1 .1 .1 .0) (slopes k) (k .before .slopes .ensures) (numbers k) (k .numbers .ensures))),
+        refl,
+      ),
     )
 
 pub written-spec : {M : Type 1} → statement M

@@ -18,11 +18,11 @@ returns c =
     let get2 = put .before .before in
     let told = get2 .before .before in
     let plan = told .before .before .before .before .before in
-    let s = plan .before .before .before .before .before .before .before .args in
-    as-it-was (CannotBeBettered (callOf (s .job .now) (areasIn (s .lent) (s .area .now) (s .map .now))) (verdictOf (plan .plan .result)))
+    let s = plan .before .before .before .before .before .before .before .before .args in
+    as-it-was (CannotBeBettered (callOf (s .job .now) (s .amendments .now) (areasIn (s .lent) (s .area .now) (s .map .now))) (verdictOf (plan .plan .result)))
     (plan .plan .ensures .0 .best)
     (again (apart .is-apart .result) (put .put .last .0) (put2 .put2 .last .0) 40 (get3 .get3 .result) (get3 .get3 .ensures) (put2 .put2 .ensures)
-    ∙ again (told .is-planned .result) (plan .plan .last .1 .0) (put .put .last .0) 24 (get2 .get2 .result) (get2 .get2 .ensures) (put .put .ensures))
+    ∙ again (told .is-planned .result) (plan .plan .last .1 .1 .0) (put .put .last .0) 24 (get2 .get2 .result) (get2 .get2 .ensures) (put .put .ensures))
 
 pub plan-rewritten-spec : {M : Type 1} → statement M
 plan-rewritten-spec =

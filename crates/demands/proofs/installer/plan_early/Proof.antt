@@ -11,8 +11,8 @@ use Rattle.demands.proofs.installer.plan_early.Tie as tie
 
 returns : tie.Need-returns
 returns c =
-    let a = c .before .before .before .before .args in
-    let call = callOf (a .job .now) (areasIn (a .lent) (a .area .now) (a .map .now)) in
+    let a = c .before .before .before .before .before .args in
+    let call = callOf (a .job .now) (a .amendments .now) (areasIn (a .lent) (a .area .now) (a .map .now)) in
     turned-early (GivesFits call) call (omega (arith, c .if1 .taken)) (definitions-give-fits call)
 
 pub plan-early-spec : {M : Type 1} → statement M

@@ -1,7 +1,7 @@
 -- `slopes` meets its contract: each variable adds to its own component.
 use mathlib.Core.Path.{_≡_, refl, sym, _∙_, ap, subst}
 use mathlib.Core.List.{List}
-use Prim.Native.Nat.{ℕ, zero, suc, _+_, _-_, _≤_, _<_}
+use Prim.Native.Nat.{ℕ, _+_, _-_, _≤_, _<_}
 use borrow.Author.Needs.{needs}
 use native.Mathlib.Decide.{ℕ-discrete}
 use lib.Dec.{eqb}
@@ -11,6 +11,7 @@ use Rattle.ints.specs.Within.{Within}
 use Rattle.ints.proofs.Signed.{held}
 use Rattle.ints.proofs.{ℤ, pos, _+ℤ_, _*ℤ_, [], _∷_, arith, lin₀, facts}
 use Rattle.lists.specs.Sums.{sum, pick, sumOf}
+use Rattle.lists.proofs.ArrayPass.{all-same}
 use Rattle.lists.proofs.Sums.{sum-next, pick-yes, pick-no}
 use Rattle.runs.specs.declared.Run.{Run}
 use Rattle.jobs.specs.Solution.{number}
@@ -27,11 +28,6 @@ record Summed (w : ℕ → ℤ) (g : ℕ → ℕ) (s : ℕ → ℤ) (n i : ℕ) 
   long : length slopes ≡ 256
   at : (l : ℕ) → l < n → getD slopes l (pos 0) ≡ sumOf g l i (λ k. w k *ℤ s k)
 
-zeros : (n l : ℕ) → getD (replicate n (pos 0)) l (pos 0) ≡ pos 0
-zeros zero l = refl
-zeros (suc n) zero = refl
-zeros (suc n) (suc l) = zeros n l
-
 plus-zero : (x : ℤ) → x +ℤ pos 0 ≡ x
 plus-zero x = lin₀ (x ∷ []) (search facts depth 20) (omega arith)
 
@@ -41,7 +37,7 @@ module _ (w : ℕ → ℤ) (g : ℕ → ℕ) (s : ℕ → ℤ) (n : ℕ) where
 
   none : Summed w g s n 0 (replicate 256 (pos 0))
   unfolding sum
-  none = record { long = length-replicate 256 (pos 0); at = λ l h. zeros 256 l }
+  none = record { long = length-replicate 256 (pos 0); at = λ l h. all-same 256 l (pos 0) }
 
   -- one variable more: i adds to its component
   more : (i : ℕ) (slopes : List ℤ) → Summed w g s n i slopes → g i < n → n ≤ 256 → (x : ℤ) → x ≡ sumOf g (g i) i term +ℤ term i → Summed w g s n (i + 1) (set slopes (g i) x)

@@ -1,6 +1,5 @@
--- What holds of a job that the check accepts, once it is read: how many variables and components it has, and that the bounds in its
--- rows are its own.
-use mathlib.Core.Path.{_≡_, sym, _∙_, ap, subst}
+-- What holds of the labels of a job that is read: they are the definition's lowest variables, and so are those that lead.
+use mathlib.Core.Path.{_≡_, sym, _∙_, ap}
 use mathlib.Core.List.{List}
 use Prim.Native.Nat.{ℕ, _<_}
 use lib.Dec.{eqb}
@@ -9,29 +8,12 @@ use Rattle.lists.specs.Keep.{keep}
 use Rattle.lists.specs.Table.{upTo}
 use Rattle.lists.proofs.Keep.{keep-same}
 use Rattle.lists.proofs.Table.{in-upTo}
-use Rattle.jobs.specs.declared.Checked.{Checked}
-use Rattle.jobs.specs.declared.Checked.the-variants.{Accepted}
-use Rattle.jobs.specs.Call.{lendingNothing}
-use Rattle.jobs.specs.Faults.{answerOf, ChecksExactly}
 use Rattle.jobs.specs.Job.{jobOf, variableCount, equationCount}
 use Rattle.jobs.specs.Component.{lowest, lowestBy, leads, componentCount}
-use Rattle.jobs.proofs.Faults.{faultless-iff}
-use Rattle.jobs.specs.Lawful.{Lawful}
 use Rattle.jobs.proofs.JobOf.{variables-of, equations-of}
-use Rattle.jobs.proofs.Lawful.{lawful}
 use Rattle.families.specs.ModelFindings.{leadsBy}
 use Rattle.solver.specs.StateArrays.{labelIn}
-use Rattle.solver.specs.Families.{Families}
-use Rattle.solver.specs.declared.State.{State}
-use Rattle.jobs.specs.declared.Bounds.{Bounds}
-use Rattle.jobs.specs.Bounds.{withBounds, BoundedBy}
-use Rattle.solver.specs.VariableArrays.{BoundsOf}
 use Rattle.solver.specs.Labels.{Labels}
-use Rattle.solver.proofs.OwnBounds.{own-bounds, own-bounded}
-
--- it is lawful
-pub accepts : (s : List ℕ) (c : Checked) → ChecksExactly s (answerOf c) → c ≡ Accepted → Lawful s
-accepts s c x a = lawful (lendingNothing s) (faultless-iff (lendingNothing s) .1 (x .acceptance .0 (ap answerOf a)))
 
 -- n and m are the job's numbers of variables and equations
 module _ (s : List ℕ) (n m : ℕ) (p : n ≡ variableCount s) (q : m ≡ equationCount s) where
@@ -55,13 +37,3 @@ module _ (s : List ℕ) (n m : ℕ) (p : n ≡ variableCount s) (q : m ≡ equat
 
     pub counted : (g : ℕ) → g ≡ length (leadsBy (labelIn labels) n) → g ≡ componentCount (jobOf s)
     counted g e = e ∙ ap length leads-are
-
-  module _ (bounds : List Bounds) (b : BoundsOf (jobOf s) n bounds) where
-    own : BoundsOf (jobOf s) (length (jobOf s .variables)) bounds
-    own = subst (λ n. BoundsOf (jobOf s) n bounds) vars b
-
-    pub bounded : Lawful s → BoundedBy bounds n
-    bounded f = subst (BoundedBy bounds) (sym vars) (own-bounded (jobOf s) bounds own (f .job))
-
-    pub families : (x : State) → Families (withBounds (jobOf s) bounds) x → Families (jobOf s) x
-    families x f = subst (λ j. Families j x) (own-bounds (jobOf s) bounds own) f
