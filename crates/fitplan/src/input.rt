@@ -47,3 +47,16 @@ pub(crate) fn read_amendments(file: i32, b: &mut Amendments) -> usize
 {
     io::read_full(file, b)
 }
+
+/// Did that stop at a read that fails, as every read of a directory does? Then so does one more. It is told on standard error.
+pub(crate) fn has_failed(file: i32) -> bool {
+    if file < 0 {
+        return false;
+    }
+    let mut byte = [0u8; 1];
+    if 0 <= libc::read(file, &mut byte) {
+        return false;
+    }
+    os::fail(b"amendments");
+    true
+}

@@ -31,6 +31,9 @@ fn main() {
         return;
     }
     let sheets = input::read_amendments(file, &mut amendments);
+    if input::has_failed(file) {
+        return;
+    }
     let length = input::read(&mut job);
     let outcome = planner::plan(
         &job[..length],

@@ -29,7 +29,6 @@ ghost use Rattle.planner.specs.Lending.{areasIn};
 ghost use Rattle.planner.specs.Survey.{Surveyed};
 use choose::Found;
 use jobs::Checked;
-use jobs::amendments;
 use jobs::header;
 use reasons::Reason;
 use solver::State;
@@ -139,10 +138,9 @@ fn solved(job: &[u8], amendments: &[u8], area: &mut [u8], n: usize, m: usize, g:
     ensures { λ _. ⌜ now (area .exit) ≡ sheetAfter (findings (amended (now (job .entry)) (now (amendments .entry)))) (fitting (amended (now (job .entry)) (now (amendments .entry)))) (now (area .entry)) ⌝ }
     ensures { λ r. ⌜ refusalOf r ≡ none ⌝ }
 {
-    let rows = variables::read(job, n);
-    let own = rows.bounds;
+    let rows = variables::in_force(job, amendments, n);
+    let bounds = rows.bounds;
     let weights = rows.weights;
-    let bounds = amendments::overlay(amendments, own, n);
     let state = equations::families(job, bounds, n, m);
     let runs = state.runs;
     let empty = choose::first_empty(runs, n);

@@ -11,9 +11,9 @@ use lib.IntN.{ℤ}
 use Rattle.lists.specs.Table.{Tabulates}
 use Rattle.jobs.specs.Call.{Call, lendingNothing}
 use Rattle.jobs.specs.Job.{Job, jobOf}
-use Rattle.jobs.specs.Bounds.{noBounds, Bounded}
+use Rattle.jobs.specs.declared.Bounds.{Bounds}
+use Rattle.jobs.specs.Bounds.{noBounds, withBounds, Bounded, BoundedBy}
 use Rattle.jobs.specs.Amendments.{amendmentsOf, boundsInForce, amended}
-use Rattle.jobs.specs.ReasonTable.{Misreferenced}
 use Rattle.jobs.specs.Faults.{firstBroken}
 use Rattle.jobs.specs.Lawful.{LawfulJob, Lawful}
 use Rattle.jobs.specs.Findings.{findings}
@@ -27,8 +27,7 @@ use Rattle.solver.specs.Labels.{Lowest}
 use Rattle.families.specs.ModelFindings.{leadsBy}
 use Rattle.planner.specs.Choice.{Members, NoneEmpty, AllWithin, FirstEmpty}
 use Rattle.jobs.proofs.Lawful.{lawful as lawful-job}
-use Rattle.jobs.proofs.AmendmentsInForce.{amendments-of}
-use Rattle.jobs.proofs.AmendedJob.{amended-length, variable-amended, amended-with, referenced, bounded-in-force, lawful-amended, overlaid}
+use Rattle.jobs.proofs.AmendedJob.{amended-length, variable-amended, amended-with, bounded-in-force, lawful-amended}
 use Rattle.solver.specs.VariableArrays.{BoundsOf, WeightsOf}
 use Rattle.solver.proofs.LabelsOfJob.{vars}
 use Rattle.planner.proofs.StateOfJob.{labels, members, counted, found, full, objective-best, area-best}
@@ -66,73 +65,56 @@ module _ (s : tie.Start) where
   n-all : n ≡ length (j .variables)
   n-all = n-rows ∙ sym (amended-length job amendments)
 
-  -- the weights of its rows are its own
-  weights-are : (weights : List ℤ) → WeightsOf (jobOf job) n weights → WeightsOf j n weights
-  weights-are weights w = record { at = λ i h. w .at i h ∙ sym (ap (λ v. v .weight) (variable-amended job amendments i (omega (arith, h, n-rows)))) }
+  -- bounds that are those of its rows, as amended
+  module _ (bounds : List Bounds) (b : BoundsOf j n bounds) where
+    in-force : Tabulates noBounds (boundsInForce (jobOf job) (amendmentsOf amendments)) (length (jobOf job .variables)) bounds
+    in-force = record { at = λ i h. b .at i (omega (arith, h, n-rows)) ∙ ap (λ v. record { low = v .low; high = v .high }) (variable-amended job amendments i h) }
+
+    bounded : BoundedBy bounds n
+    bounded = record { at = λ i h. let l : i < length (jobOf job .variables) = omega (arith, h, n-rows) in subst Bounded (sym (in-force .at i l)) (bounded-in-force call accepted i l) }
+
+    as-amended : withBounds (jobOf job) bounds ≡ j
+    as-amended = amended-with job amendments bounds in-force
 
   -- the verdict, by whether a component is without a solution
   by-first : {o : Option ℕ} → firstWithout j ≡ o → fitting j ≡ outcome none o (objective j (best j))
   by-first e = ap (λ o. outcome none o (objective j (best j))) e
 
-read-requires : tie.Need-read-requires
-read-requires c κs = let s = c .before .before .before in (rows-lawful s .rows, s .pre .1 .0)
-
-overlay-requires : tie.Need-overlay-requires
-overlay-requires c κs =
-    let s = c .before .before .before .before .before .before in (
-      omega (arith, s .pre .1 .0, rows-lawful s .rows .variables),
-      record { at = λ t h m. referenced (call s) (accepted s) .at t (omega (arith, h, amendments-of (amendments s))) (subst (λ n. Misreferenced n (amendmentsOf (amendments s)) t) (s .pre .1 .0) m) },
-    )
-
--- the bounds that are left are those in force
-module _ (c : tie.After-overlay) where
-  abbrev of-rows : tie.After-read
-  of-rows = c .before .before .before
-
-  abbrev at-start : tie.Start
-  at-start = of-rows .before .before .before .before
-
-  in-force : Tabulates noBounds (boundsInForce (jobOf (job at-start)) (amendmentsOf (amendments at-start))) (length (jobOf (job at-start) .variables)) (c .overlay .result)
-  in-force =
-      overlaid (call at-start) (accepted at-start) (of-rows .read .result .bounds) (c .overlay .result)
-      (subst (λ n. BoundsOf (jobOf (job at-start)) n (of-rows .read .result .bounds)) (n-rows at-start) (of-rows .read .ensures .0)) (c .overlay .ensures)
+in-force-requires : tie.Need-in-force-requires
+in-force-requires c κs = let s = c .before .before .before in (accepted s, s .pre .1 .0)
 
 families-requires : tie.Need-families-requires
 families-requires c κs =
-    let s = at-start c in (
-      rows-lawful s,
-      (
-        s .pre .1 .0,
-        (
-          s .pre .1 .1 .0,
-          record { at = λ i h. let b : i < length (jobOf (job s) .variables) = omega (arith, h, n-rows s) in subst Bounded (sym (in-force c .at i b)) (bounded-in-force (call s) (accepted s) i b) },
-        ),
-      ),
-    )
+    let r = c .before .before in
+    let s = r .before .before .before .before in
+    (rows-lawful s, (s .pre .1 .0, (s .pre .1 .1 .0, bounded s (r .in-force .result .bounds) (r .in-force .ensures .0))))
+
+-- before the rows are read
+abbrev start-of : tie.After-in-force → tie.Start
+start-of r = r .before .before .before .before
 
 first-empty-requires : tie.Need-first-empty-requires
-first-empty-requires c κs = let s = at-start (c .before .before) in omega (arith, s .pre .1 .0, rows-lawful s .rows .variables)
+first-empty-requires c κs = let s = start-of (c .before .before .before .before) in omega (arith, s .pre .1 .0, rows-lawful s .rows .variables)
 
 -- with the families in hand
 module _ (c : tie.After-first-empty) where
-  abbrev rows : tie.After-read
-  rows = of-rows (c .before .before .before)
+  abbrev rows : tie.After-in-force
+  rows = c .before .before .before .before .before
 
   abbrev start : tie.Start
-  start = at-start (c .before .before .before)
+  start = start-of rows
 
   abbrev state : State
   state = c .before .before .families .result
 
   are-families : Families (j start) state
   are-families =
-      let o = c .before .before .before in
-      subst (λ j. Families j state) (amended-with (job start) (amendments start) (o .overlay .result) (in-force o)) (c .before .before .families .ensures)
+      subst (λ j. Families j state) (as-amended start (rows .in-force .result .bounds) (rows .in-force .ensures .0)) (c .before .before .families .ensures)
 
-  weighs : WeightsOf (j start) (n start) (rows .read .result .weights)
-  weighs = weights-are start (rows .read .result .weights) (rows .read .ensures .1)
+  weighs : WeightsOf (j start) (n start) (rows .in-force .result .weights)
+  weighs = rows .in-force .ensures .1
 
-  weighed : AllWithin 1000000 (rows .read .result .weights) (n start)
+  weighed : AllWithin 1000000 (rows .in-force .result .weights) (n start)
   weighed = record { at = λ i h. subst (Within 1000000) (sym (weighs .at i h)) (lawful start .each-variable i (omega (arith, h, n-all start)) .weight) }
 
   grouped : start .args .g ≡ length (leadsBy (labelIn (state .labels)) (n start))
@@ -175,7 +157,7 @@ returns-2 c =
     let e = w .before .before .before .before in
     let s = start e in
     let f = subst (FirstEmpty (state e .runs) (n s)) (w .before .before .enum-told .given .1) (e .first-empty .ensures) in
-    let weights = rows e .read .result .weights in
+    let weights = rows e .in-force .result .weights in
     let v = by-first s (full (j s) (lawful s) (state e) (are-families e) (subst (NoneEmpty (state e .runs)) (n-all s) f)) in (
       w .written .ensures .0 ∙ ap planned (objective-best (j s) (lawful s) (state e) (are-families e) (n-all s) weights (weighs e) f) ∙ sym v,
       (
@@ -188,4 +170,4 @@ returns-2 c =
 pub solved-spec : {M : Type 1} → statement M
 solved-spec =
     tie.close
-    (tie.spec read-requires overlay-requires families-requires first-empty-requires (search needs) (search needs) written-requires returns (search needs) returns-2)
+    (tie.spec in-force-requires families-requires first-empty-requires (search needs) (search needs) written-requires returns (search needs) returns-2)
