@@ -218,28 +218,29 @@ static void try_refused(void) {
 /* The entry behind fit_plan: only bit 0 of the last argument says that the map is lent. */
 static void try_lent(void) {
     clear();
-    gives("lent 0, a map area", fit_plan_call(job_m, 112, area, 120, map, 48, 0), planned(314));
+    gives("lent 0, a map area", fit_plan_v2(job_m, 112, NULL, 0, area, 120, map, 48, 0), planned(314));
     wrote("lent 0, a map area", sheet_m, 120, NULL, 0);
     clear();
-    gives("lent FFFFFFFE, a map area of length 0", fit_plan_call(job_m, 112, area, 120, map, 0, UINT32_MAX - 1),
+    gives("lent FFFFFFFE, a map area of length 0", fit_plan_v2(job_m, 112, NULL, 0, area, 120, map, 0, UINT32_MAX - 1),
           planned(314));
     wrote("lent FFFFFFFE, a map area of length 0", sheet_m, 120, NULL, 0);
     clear();
-    gives("lent FFFFFFFF, a map area", fit_plan_call(job_m, 112, area, 120, map, 48, UINT32_MAX), planned(314));
+    gives("lent FFFFFFFF, a map area", fit_plan_v2(job_m, 112, NULL, 0, area, 120, map, 48, UINT32_MAX), planned(314));
     wrote("lent FFFFFFFF, a map area", sheet_m, 120, map_m, 48);
     clear();
-    gives("lent 1, map NULL", fit_plan_call(job_m, 112, area, 120, NULL, 0, FIT_LENT_MAP),
+    gives("lent 1, map NULL", fit_plan_v2(job_m, 112, NULL, 0, area, 120, NULL, 0, FIT_LENT_MAP),
           (struct fit_outcome){.kind = 3, .reason = 10});
     wrote("lent 1, map NULL", NULL, 0, NULL, 0);
 }
 
-/* ---- the job check ---- */
+/* ---- the job check, which without amendments is also that of a job with its amendments ---- */
 
 static void checked(const char *what, const uint8_t *job, size_t length, uint32_t reason, uint32_t row) {
-    struct fit_checked got = fit_check(job, length);
-    tell(got.reason == reason && got.row == row,
-         "check of %s: reason %" PRIu32 " row %" PRIu32 " in place of reason %" PRIu32 " row %" PRIu32, what, got.reason,
-         got.row, reason, row);
+    const struct fit_checked got[] = {fit_check(job, length), fit_check_amendments(job, length, NULL, 0)};
+    for (int i = 0; i < 2; i++)
+        tell(got[i].reason == reason && got[i].row == row,
+             "check of %s%s: reason %" PRIu32 " row %" PRIu32 " in place of reason %" PRIu32 " row %" PRIu32, what,
+             i == 0 ? "" : ", with no amendments", got[i].reason, got[i].row, reason, row);
 }
 
 /* Job M with one byte changed. */
@@ -339,6 +340,10 @@ static void try_lengths(void) {
     length("the longest map", fit_map_length(FIT_MOST_COUNTS, FIT_MOST_EQUATIONS), 5144);
     length("the longest map, as a constant", FIT_MAP_LENGTH, 5144);
     length("the longest job, as a constant", FIT_JOB_LENGTH, 23576);
+    length("no amendments", fit_amendments_length(0), 0);
+    length("two amendments", fit_amendments_length(2), 40);
+    length("the most amendments", fit_amendments_length(FIT_MOST_AMENDMENTS), 10240);
+    length("the most amendments, as a constant", FIT_AMENDMENTS_LENGTH, 10240);
 }
 
 int main(void) {

@@ -1,5 +1,6 @@
 /* Measures the stack of a call: in a thread whose stack is an array here, fills what lies below with a pattern, makes the
- * call, and looks how deep the pattern was overwritten. Prints the most of several calls on full frames. */
+ * call, and looks how deep the pattern was overwritten. Prints the most of several calls on full frames, without amendments and
+ * with as many as there can be. */
 #define _POSIX_C_SOURCE 200809L
 #include "fitplan.h"
 #include <pthread.h>
@@ -9,7 +10,7 @@
 enum { STACK = 1 << 20, NEAR = 512, OLD = 0xA5 };
 static _Alignas(4096) volatile uint8_t stack[STACK];
 
-static uint8_t job[FIT_JOB_LENGTH], sheet[FIT_SHEET_LENGTH], map[FIT_MAP_LENGTH];
+static uint8_t job[FIT_JOB_LENGTH], amendments[FIT_AMENDMENTS_LENGTH], sheet[FIT_SHEET_LENGTH], map[FIT_MAP_LENGTH];
 static size_t job_length;
 
 static void put(uint8_t *at, int64_t value, int bytes) {
@@ -45,6 +46,21 @@ static void make(int32_t high, int m, int32_t a, int32_t b, int64_t c) {
     }
 }
 
+/* Two amendments to each count: one that leaves it no number, and behind all of these one that supersedes it and brings the
+ * bounds -high to high. */
+static void amend(int32_t high) {
+    const int n = FIT_MOST_COUNTS;
+    for (int i = 0; i < 2 * n; i++) {
+        uint8_t *row = amendments + 20 * i;
+        put(row, i + 1, 4);
+        put(row + 4, i < n ? 0 : i - n + 1, 4);
+        put(row + 8, i % n, 2);
+        put(row + 10, 0, 2);
+        put(row + 12, i < n ? high : -high, 4);
+        put(row + 16, i < n ? -high : high, 4);
+    }
+}
+
 static size_t most;
 static const char *wrong;
 
@@ -59,16 +75,26 @@ static void look(const uint8_t *here) {
     if (deep > most) most = deep;
 }
 
-static void plan(uint32_t kind, const char *what) {
+static void plan_with(size_t amendments_length, uint32_t kind, const char *what) {
     const uint8_t *here = __builtin_frame_address(0);
     const struct fit_call call = {.job = job, .job_length = job_length, .area = sheet, .area_length = sizeof sheet,
-                                  .map = map, .map_length = sizeof map};
+                                  .map = map, .map_length = sizeof map,
+                                  .amendments = amendments, .amendments_length = amendments_length};
     fill(here);
     if (fit_plan(&call).kind != kind) wrong = what;
     look(here);
     fill(here);
     if (fit_check(job, job_length).reason != 0) wrong = what;
     look(here);
+    fill(here);
+    if (fit_check_amendments(job, job_length, amendments, amendments_length).reason != 0) wrong = what;
+    look(here);
+}
+
+/* A job that the amendments leave as it is, planned without them and with them. */
+static void plan(uint32_t kind, const char *what) {
+    plan_with(0, kind, what);
+    plan_with(sizeof amendments, kind, what);
 }
 
 static void work(void) {
@@ -82,10 +108,12 @@ static void work(void) {
 }
 
 static void calls(void) {
+    amend(9);
     make(9, FIT_MOST_EQUATIONS, 1, -1, 0);
     plan(FIT_PLANNED, "a chain with rings");
     make(9, FIT_MOST_EQUATIONS, 1, -1, 1);
     plan(FIT_NO_FIT, "a chain with rings, and no fit");
+    amend(1000000000);
     make(1000000000, FIT_MOST_EQUATIONS, 2, -3, 0);
     plan(FIT_PLANNED, "a chain with rings, and one fit");
     make(1000000000, 0, 0, 0, 0);
