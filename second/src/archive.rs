@@ -51,9 +51,11 @@ const _: () = assert!(size_of::<Outcome>() == 24 && size_of::<Checked>() == 8 &&
 const _: () = assert!(size_of::<Run>() == 24 && size_of::<Working>() == 32 && size_of::<usize>() == 8);
 
 extern "C" {
-    fn fit_plan_call(
+    fn fit_plan_v2(
         job: *const u8,
         job_length: usize,
+        amendments: *const u8,
+        amendments_length: usize,
         area: *mut u8,
         area_length: usize,
         map: *mut u8,
@@ -61,22 +63,36 @@ extern "C" {
         lent: u32,
     ) -> Outcome;
     fn fit_check(job: *const u8, job_length: usize) -> Checked;
+    fn fit_check_amendments(job: *const u8, job_length: usize, amendments: *const u8, amendments_length: usize) -> Checked;
     fn fit_divide(n: i64, d: i64) -> Quotient;
     fn fit_meet(a: Run, b: Run) -> Working;
     fn fit_carry(a: i64, b: i64, c: i64, q: Run) -> Working;
 }
 
 /// A planning call. None is a null pointer with length 0; bit 0 of `lent` says that the map area is lent.
-pub fn plan(job: Option<&[u8]>, area: Option<&mut [u8]>, map: Option<&mut [u8]>, lent: u32) -> Outcome {
-    let ((job, job_length), (area, area_length), (map, map_length)) = (read_only(job), writable(area), writable(map));
+pub fn plan(
+    job: Option<&[u8]>,
+    amendments: Option<&[u8]>,
+    area: Option<&mut [u8]>,
+    map: Option<&mut [u8]>,
+    lent: u32,
+) -> Outcome {
+    let ((job, job_length), (amendments, amendments_length)) = (read_only(job), read_only(amendments));
+    let ((area, area_length), (map, map_length)) = (writable(area), writable(map));
     // the host's duties: the lengths are those of slices, and slices borrowed for writing overlap with no other
-    unsafe { fit_plan_call(job, job_length, area, area_length, map, map_length, lent) }
+    unsafe { fit_plan_v2(job, job_length, amendments, amendments_length, area, area_length, map, map_length, lent) }
 }
 
 pub fn check(job: Option<&[u8]>) -> Checked {
     let (job, length) = read_only(job);
     // the length is that of a slice
     unsafe { fit_check(job, length) }
+}
+
+pub fn check_amendments(job: Option<&[u8]>, amendments: Option<&[u8]>) -> Checked {
+    let ((job, job_length), (amendments, amendments_length)) = (read_only(job), read_only(amendments));
+    // the lengths are those of slices
+    unsafe { fit_check_amendments(job, job_length, amendments, amendments_length) }
 }
 
 pub fn divide(n: i64, d: i64) -> Quotient {

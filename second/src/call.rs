@@ -1,12 +1,14 @@
-//! What a planning call gives: the outcome, and what stands in both areas afterwards (document 01, "The sheet"; 02, #101).
+//! What a planning call gives: the outcome, and what stands in both areas afterwards (document 01, "The sheet"; 02, #101 and
+//! #105).
 
-use crate::job::{self, Job, Refusal};
+use crate::amendments::amended;
+use crate::job::{Job, Refusal};
 use crate::plan::{plan_job, Outcome};
 use crate::{map, sheet};
 
-/// Plan the job, and write into the areas as the planner does. There is a map area only where one is lent.
-pub fn call(bytes: &[u8], area: &mut [u8], map: Option<&mut [u8]>) -> Outcome {
-    let job = match job::read(bytes) {
+/// Plan the job as amended, and write into the areas as the planner does. There is a map area only where one is lent.
+pub fn call(bytes: &[u8], amendments: &[u8], area: &mut [u8], map: Option<&mut [u8]>) -> Outcome {
+    let job = match amended(bytes, amendments) {
         Ok(job) => job,
         Err(refusal) => return Outcome::Refused(refusal),
     };
@@ -41,7 +43,7 @@ fn write(area: &mut [u8], bytes: &[u8]) {
 #[cfg(test)]
 mod tests {
     use super::*;
-    use crate::job::{Count, Equation};
+    use crate::job::{self, Count, Equation};
 
     /// 2·c0 - 2·c1 = c: a sheet of 72 bytes and a map of 36. With an odd c there is no fit.
     fn job(c: i64) -> Vec<u8> {
@@ -56,7 +58,7 @@ mod tests {
     fn after(bytes: &[u8], area: usize, map: Option<usize>) -> ((u8, usize), usize, usize) {
         let mut area = vec![7; area];
         let mut map = map.map(|length| vec![7; length]);
-        let outcome = match call(bytes, &mut area, map.as_deref_mut()) {
+        let outcome = match call(bytes, &[], &mut area, map.as_deref_mut()) {
             Outcome::Planned(_) => PLANNED,
             Outcome::NoFit(_) => NO_FIT,
             Outcome::Refused(refusal) => (refusal.reason, refusal.row),

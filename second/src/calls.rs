@@ -1,16 +1,17 @@
-//! Calls the planner's archive on many pseudo-random jobs and areas, and compares the outcome and both areas, byte for byte, with
-//! what this planner says that the call gives.
+//! Calls the planner's archive on many pseudo-random jobs, amendments and areas, and compares the outcome and both areas, byte for
+//! byte, with what this planner says that the call gives.
 
 use std::path::Path;
 use std::{fs, io};
 
+use crate::amendments::{self, amended};
 use crate::archive::{self, Checked};
 use crate::call;
 use crate::compare::FOLDER;
 use crate::fence::Fence;
-use crate::job;
+use crate::job::{self, Job, Refusal};
 use crate::kinds::{self, KINDS};
-use crate::lent::{Call, MOST_AREA, MOST_GAP, MOST_JOB};
+use crate::lent::{Call, MOST_AMENDMENT_BYTES, MOST_AREA, MOST_GAP, MOST_JOB};
 use crate::plan::Outcome;
 use crate::stop;
 use crate::tally::Tally;
@@ -45,7 +46,8 @@ struct Wanted {
 impl Wanted {
     fn of(call: &Call) -> Wanted {
         let (mut area, mut map) = (call.area().to_vec(), call.map().to_vec());
-        let outcome = call::call(call.job(), &mut area, call.map_is_lent().then_some(&mut map));
+        let map_area = call.map_is_lent().then_some(&mut map[..]);
+        let outcome = call::call(call.job(), call.amendments(), &mut area, map_area);
         Wanted { outcome, area, map }
     }
 }
@@ -53,35 +55,49 @@ impl Wanted {
 /// The buffers of a call, used again by the next.
 struct Fences {
     job: Fence,
+    amendments: Fence,
     area: Fence,
     map: Fence,
 }
 
 impl Fences {
     fn new() -> io::Result<Fences> {
-        let area = || Fence::new(MOST_AREA + MOST_GAP);
-        Ok(Fences { job: Fence::new(MOST_JOB + MOST_GAP)?, area: area()?, map: area()? })
+        let fence = |most| Fence::new(most + MOST_GAP);
+        let (job, amendments) = (fence(MOST_JOB)?, fence(MOST_AMENDMENT_BYTES)?);
+        Ok(Fences { job, amendments, area: fence(MOST_AREA)?, map: fence(MOST_AREA)? })
     }
 
     /// Call the archive, to plan and to check, and say in words what is not as wanted.
     fn differences(&mut self, call: &Call, wanted: &Wanted) -> Vec<String> {
         self.job.lay(call.job(), call.gaps[0]);
-        self.area.lay(call.area(), call.gaps[1]);
-        self.map.lay(call.map(), call.gaps[2]);
+        self.amendments.lay(call.amendments(), call.gaps[1]);
+        self.area.lay(call.area(), call.gaps[2]);
+        self.map.lay(call.map(), call.gaps[3]);
         let job = call.job.is_some().then_some(self.job.bytes());
+        let amendments = call.amendments.is_some().then_some(self.amendments.bytes());
         let area = call.area.is_some().then_some(self.area.bytes_mut());
         let map = call.map.is_some().then_some(self.map.bytes_mut());
         let mut found = Vec::new();
-        let (given, outcome) = (archive::plan(job, area, map, call.lent), fields(&wanted.outcome));
+        let (given, outcome) = (archive::plan(job, amendments, area, map, call.lent), fields(&wanted.outcome));
         if given != outcome {
             found.push(format!("the outcome is {}, and {} is wanted", words(&given), words(&outcome)));
         }
-        let (given, check) = (archive::check(job), checked(call.job()));
-        if given != check {
-            found.push(format!("the job check gives {given:?}, and {check:?} is wanted"));
+        for (name, given, wanted) in [
+            ("the job check", archive::check(job), job::read(call.job())),
+            (
+                "the check with amendments",
+                archive::check_amendments(job, amendments),
+                amended(call.job(), call.amendments()),
+            ),
+        ] {
+            let wanted = checked(&wanted);
+            if given != wanted {
+                found.push(format!("{name} gives {given:?}, and {wanted:?} is wanted"));
+            }
         }
-        let buffers = [(&self.job, call.job()), (&self.area, &wanted.area[..]), (&self.map, &wanted.map[..])];
-        for ((fence, wanted), layout) in buffers.into_iter().zip(layouts(call.job())) {
+        let fences = [&self.job, &self.amendments, &self.area, &self.map];
+        let wanted = [call.job(), call.amendments(), &wanted.area, &wanted.map];
+        for ((fence, wanted), layout) in fences.into_iter().zip(wanted).zip(layouts(call.job(), call.amendments())) {
             found.extend(changed(fence, wanted, &layout));
         }
         found
@@ -106,27 +122,32 @@ fn words(outcome: &archive::Outcome) -> String {
     format!("{name} (kind {kind}, count {count}, reason {reason}, row {row}, worth {worth})")
 }
 
-fn checked(bytes: &[u8]) -> Checked {
-    let refused = |refusal: job::Refusal| Checked { reason: refusal.reason.into(), row: refusal.row as u32 };
-    job::read(bytes).map_or_else(refused, |_| Checked::default())
+fn checked(answer: &Result<Job, Refusal>) -> Checked {
+    match answer {
+        Ok(_) => Checked::default(),
+        Err(refusal) => Checked { reason: refusal.reason.into(), row: refusal.row as u32 },
+    }
 }
 
-/// The name of a buffer, and what stands in it after a header of 24 bytes: rows of two names, with how many there are of each, and
-/// their lengths.
+/// The name of a buffer, and what stands in it: a header of some bytes, and then rows of one name or more, with how many there are of
+/// each, and their lengths.
 struct Layout {
     name: &'static str,
-    rows: [(&'static str, usize, usize); 2],
+    header: usize,
+    rows: Vec<(&'static str, usize, usize)>,
 }
 
-/// Those of the job, the answer area and the map area. Of a job that is no job, headers alone.
-fn layouts(bytes: &[u8]) -> [Layout; 3] {
+/// Those of the job, the amendments, the answer area and the map area. Of a job that is no job, headers alone.
+fn layouts(bytes: &[u8], amendments: &[u8]) -> [Layout; 4] {
     let (n, m, g) = job::read(bytes).map_or((0, 0, 0), |job| {
         let n = job.counts.len();
         (n, job.equations.len(), (call::sheet_length(&job) - 24) / 16 - n)
     });
-    let layout = |name, first, second| Layout { name, rows: [first, second] };
+    let layout = |name, first, second| Layout { name, header: 24, rows: vec![first, second] };
+    let row = amendments::ROW;
     [
         layout("job", ("count row", n, 12), ("equation row", m, 20)),
+        Layout { name: "amendments", header: 0, rows: vec![("amendment", amendments.len() / row, row)] },
         layout("answer area", ("count row", n, 16), ("group row", g, 16)),
         layout("map area", ("count row", n, 4), ("equation row", m, 4)),
     ]
@@ -156,11 +177,11 @@ fn changed(fence: &Fence, wanted: &[u8], layout: &Layout) -> Vec<String> {
 
 /// The part that a byte belongs to.
 fn place(at: usize, layout: &Layout) -> String {
-    let mut start = 24;
+    let mut start = layout.header;
     if at < start {
         return "in the header".to_string();
     }
-    for (name, many, length) in layout.rows {
+    for &(name, many, length) in &layout.rows {
         if at < start + many * length {
             return format!("byte {} of {name} {}", (at - start) % length, (at - start) / length);
         }
@@ -169,18 +190,21 @@ fn place(at: usize, layout: &Layout) -> String {
     "past the last row".to_string()
 }
 
-/// Print the call and what was found, and keep the job's bytes.
+/// Print the call and what was found, and keep the bytes of the job and of its amendments.
 fn show(number: u64, call: &Call, found: &[String]) -> io::Result<()> {
     fs::create_dir_all(FOLDER)?;
     let file = Path::new(FOLDER).join(format!("call-{number}.job"));
     fs::write(&file, call.job())?;
+    fs::write(file.with_extension("amendments"), call.amendments())?;
     let bytes = |name, bytes: &Option<Vec<u8>>| match bytes {
         Some(bytes) => format!("{name} of {} bytes", bytes.len()),
-        None => format!("{name} that is null"),
+        None => format!("{name} null"),
     };
-    let (job, area, map) = (bytes("a job", &call.job), bytes("an answer area", &call.area), bytes("a map area", &call.map));
+    let (job, amendments) = (bytes("job", &call.job), bytes("amendments", &call.amendments));
+    let (area, map) = (bytes("answer area", &call.area), bytes("map area", &call.map));
     let lent = if call.map_is_lent() { "lent" } else { "not lent" };
-    println!("  {job}, {area} and {map}, {lent} ({:#x}); the job is {}", call.lent, file.display());
+    println!("  {job}; {amendments}; {area}; {map}, {lent} ({:#x})", call.lent);
+    println!("  job and amendments are {} and .amendments beside it", file.display());
     found.iter().for_each(|text| println!("  {text}"));
     Ok(())
 }
@@ -188,19 +212,19 @@ fn show(number: u64, call: &Call, found: &[String]) -> io::Result<()> {
 #[cfg(test)]
 mod tests {
     use super::*;
-    use crate::job::{Count, Equation, Job};
+    use crate::job::{Count, Equation};
 
     /// Two counts and an equation: a map of 36 bytes, in an area of 40.
     #[test]
     fn places() {
         let counts = vec![Count { low: 0, high: 9, weight: 0 }; 2];
         let job = Job { counts, equations: vec![Equation { left: 0, right: 1, a: 1, b: 1, c: 9 }] };
-        let layouts = layouts(&job::write(&job));
-        let (of_job, of_area, of_map) = (&layouts[0], &layouts[1], &layouts[2]);
+        let [of_job, of_amendments, of_area, of_map] = &layouts(&job::write(&job), &[0; 45]);
         assert_eq!([place(23, of_map), place(36, of_map)], ["in the header", "past the last row"]);
         assert_eq!([place(24, of_map), place(33, of_map)], ["byte 0 of count row 0", "byte 1 of equation row 0"]);
         assert_eq!([place(47, of_job), place(48, of_job)], ["byte 11 of count row 1", "byte 0 of equation row 0"]);
         assert_eq!([place(71, of_area), place(72, of_area)], ["byte 15 of group row 0", "past the last row"]);
+        assert_eq!([place(0, of_amendments), place(40, of_amendments)], ["byte 0 of amendment 0", "past the last row"]);
         let mut fence = Fence::new(40).expect("a mapping");
         fence.lay(&[7; 40], 0);
         assert!(changed(&fence, &[7; 40], of_map).is_empty());

@@ -1,21 +1,21 @@
-//! Runs another planner on many pseudo-random jobs, and compares what it prints with what this one prints.
+//! Runs another planner on many pseudo-random jobs and amendments, and compares what it prints with what this one prints.
 
-use std::collections::BTreeMap;
 use std::fs;
 use std::io::{self, Read, Write};
-use std::path::Path;
-use std::process::{Child, Command, Stdio};
+use std::path::{Path, PathBuf};
+use std::process::{self, Child, Command, Stdio};
 use std::sync::atomic::{AtomicU64, Ordering};
 use std::sync::Mutex;
-use std::thread;
+use std::{env, thread};
 
+use crate::amendments::{amended, drawn};
 use crate::damaged;
-use crate::fixes::{self, CASES};
-use crate::job::{self, Refusal};
+use crate::job;
 use crate::made::{self, Size};
-use crate::plan::{plan, Outcome, Sheet};
-use crate::print::print;
+use crate::plan::{plan, Outcome};
+use crate::print::{print, print_map};
 use crate::random::Random;
+use crate::results::Results;
 use crate::spoiled;
 
 /// How many run at a time, and how many differences are shown.
@@ -33,12 +33,47 @@ pub enum Kind {
     Spoiled,
 }
 
-/// The bytes of a job, settled by the kind, the seed and its number.
-pub fn job_bytes(kind: Kind, seed: u64, number: u64) -> Vec<u8> {
-    let random = &mut Random::new(seed, number);
-    match kind {
-        Kind::Mixed => mixed(random),
-        Kind::Spoiled => spoiled::spoiled(random),
+impl Kind {
+    /// How many amendments in a hundred have faults.
+    fn faulty(self) -> i64 {
+        match self {
+            Kind::Mixed => 20,
+            Kind::Spoiled => 70,
+        }
+    }
+}
+
+/// What the program is given: a job, amendments in a file where there are any, and whether the map is to be printed too.
+pub struct Input {
+    pub job: Vec<u8>,
+    pub amendments: Option<Vec<u8>>,
+    map: bool,
+}
+
+impl Input {
+    /// Settled by the kind, the seed and its number.
+    pub fn new(kind: Kind, seed: u64, number: u64) -> Input {
+        let random = &mut Random::new(seed, number);
+        let mut job = match kind {
+            Kind::Mixed => mixed(random),
+            Kind::Spoiled => spoiled::spoiled(random),
+        };
+        let amendments = drawn::for_job(random, &mut job, kind.faulty());
+        Input { job, amendments, map: random.chance(30) }
+    }
+
+    pub fn amendments(&self) -> &[u8] {
+        self.amendments.as_deref().unwrap_or_default()
+    }
+
+    /// What this planner prints, and the outcome.
+    fn printed(&self) -> (String, Outcome) {
+        let outcome = plan(&self.job, self.amendments());
+        let mut text = print(&outcome);
+        if let (true, Ok(job)) = (self.map, amended(&self.job, self.amendments())) {
+            text += &print_map(&job);
+        }
+        (text, outcome)
     }
 }
 
@@ -55,157 +90,85 @@ fn mixed(random: &mut Random) -> Vec<u8> {
     }
 }
 
-/// What came of the jobs.
-#[derive(Default)]
-struct Tally {
-    planned: u64,
-    no_fit: u64,
-    /// by reason, from 1
-    refused: [u64; 8],
-    /// by reason, from 5: at the first row, at the last of several, at another
-    rows: [[u64; 3]; 3],
-    /// planned, with two or more fits in a group of two or more counts; and in one of a hundred or more
-    chosen: u64,
-    chosen_large: u64,
-    /// planned, with equally good fit-outs in a group with a falling count; in one with a weight; in two or more groups
-    equals: [u64; 3],
-    /// by the name of the case
-    fixes: BTreeMap<&'static str, u64>,
-    /// refused for 6 or 7, at a row behind one that joins nothing
-    behind_fix: u64,
-    different: u64,
-}
-
-impl Tally {
-    fn add(&mut self, bytes: &[u8], outcome: &Outcome) {
-        if let Ok(job) = job::read(bytes) {
-            fixes::cases(&job, outcome).into_iter().for_each(|case| *self.fixes.entry(case).or_default() += 1);
-        }
-        match outcome {
-            Outcome::Planned(sheet) => {
-                self.planned += 1;
-                self.chosen += u64::from(has_choice(sheet, 2));
-                self.chosen_large += u64::from(has_choice(sheet, 100));
-                self.add_equals(bytes, sheet);
-            }
-            Outcome::NoFit(_) => self.no_fit += 1,
-            Outcome::Refused(refusal) => self.add_refused(bytes, refusal),
-        }
-    }
-
-    fn add_equals(&mut self, bytes: &[u8], sheet: &Sheet) {
-        let Ok(job) = job::read(bytes) else { return };
-        let groups: Vec<usize> =
-            (0..sheet.groups.len()).filter(|&g| sheet.groups[g].fits > 1 && sheet.groups[g].gain == 0).collect();
-        let counts = || sheet.counts.iter().zip(&job.counts).filter(|(row, _)| groups.contains(&row.group));
-        self.equals[0] += u64::from(counts().any(|(row, _)| row.step < 0));
-        self.equals[1] += u64::from(counts().any(|(_, count)| count.weight != 0));
-        self.equals[2] += u64::from(groups.len() > 1);
-    }
-
-    fn add_refused(&mut self, bytes: &[u8], refusal: &Refusal) {
-        let reason = usize::from(refusal.reason);
-        self.refused[reason] += 1;
-        if reason >= 5 {
-            let (n, m) = job::rows(bytes);
-            let last = if reason == 5 { n } else { m } - 1;
-            let place = match refusal.row {
-                0 => 0,
-                row if row == last => 1,
-                _ => 2,
-            };
-            self.rows[reason - 5][place] += 1;
-        }
-        if let (6.., Ok(job)) = (reason, job::read_rows(bytes)) {
-            self.behind_fix += u64::from(job.equations[..refusal.row].iter().any(|tie| !tie.joins()));
-        }
-    }
-
-    /// Each case with the share that is asked of it, and how often it was there.
-    fn fixes(&self) -> impl Iterator<Item = (&'static str, u64, u64)> + '_ {
-        CASES.1.iter().map(|&(case, of)| (case, of, *self.fixes.get(case).unwrap_or(&0)))
-    }
-
-    /// Whether every kind of job is there often enough for the comparison to mean something. A short run may lack some.
-    fn is_varied(&self, kind: Kind, jobs: u64) -> bool {
-        if jobs < 1_000 {
-            return true;
-        }
-        let share = |part: u64, of: u64| part * of >= jobs;
-        let reasons = |of| self.refused[1..].iter().all(|&times| share(times, of));
-        match kind {
-            Kind::Mixed => {
-                let choices = share(self.chosen, 4) && share(self.chosen_large, 40);
-                let equals = self.equals.iter().all(|&times| share(times, 25));
-                let fixes = self.fixes().all(|(_, of, times)| share(times, of));
-                share(self.planned, 3) && share(self.no_fit, 10) && choices && equals && fixes && reasons(200)
-            }
-            Kind::Spoiled => {
-                let rows = self.rows.iter().flatten().all(|&times| share(times, 100));
-                share(self.planned + self.no_fit, 20) && reasons(30) && rows && share(self.behind_fix, 50)
-            }
-        }
-    }
-}
-
-/// Whether a group of so many counts has two or more fits.
-fn has_choice(sheet: &Sheet, counts: usize) -> bool {
-    let size = |group| sheet.counts.iter().filter(|row| row.group == group).count();
-    (0..sheet.groups.len()).any(|group| sheet.groups[group].fits > 1 && size(group) >= counts)
-}
-
 /// Compare on so many jobs; whether all is well. The last line says what was done.
 pub fn compare(kind: Kind, program: &str, seed: u64, jobs: u64) -> io::Result<bool> {
-    let (next, tally) = (AtomicU64::new(0), Mutex::new(Tally::default()));
-    thread::scope(|scope| {
-        let work = || -> io::Result<()> {
-            loop {
-                let number = next.fetch_add(1, Ordering::Relaxed);
-                if number >= jobs {
-                    return Ok(());
-                }
-                compare_one(program, &job_bytes(kind, seed, number), number, &tally)?;
+    let (next, results) = (AtomicU64::new(0), Mutex::new(Results::default()));
+    let work = |runner: Runner| -> io::Result<()> {
+        loop {
+            let number = next.fetch_add(1, Ordering::Relaxed);
+            if number >= jobs {
+                return Ok(());
             }
-        };
-        let workers: Vec<_> = (0..WORKERS).map(|_| scope.spawn(work)).collect();
+            compare_one(&runner, &Input::new(kind, seed, number), number, &results)?;
+        }
+    };
+    thread::scope(|scope| {
+        let start = |at| scope.spawn(move || work(Runner::new(program, at)));
+        let workers: Vec<_> = (0..WORKERS).map(start).collect();
         workers.into_iter().try_for_each(|worker| worker.join().expect("a worker does not panic"))
     })?;
-    let tally = tally.into_inner().expect("no worker has panicked");
-    Ok(report(&tally, kind, seed, jobs))
+    let results = results.into_inner().expect("no worker has panicked");
+    Ok(results.report(kind, seed, jobs))
 }
 
-fn compare_one(program: &str, bytes: &[u8], number: u64, tally: &Mutex<Tally>) -> io::Result<()> {
-    let outcome = plan(bytes);
-    let wanted = print(&outcome);
+fn compare_one(runner: &Runner, input: &Input, number: u64, results: &Mutex<Results>) -> io::Result<()> {
+    let (wanted, outcome) = input.printed();
     // every eighth job comes in pieces, as a slow sender's would
     let piece = match number % 8 {
-        0 => bytes.len() / 5 + 1,
-        _ => bytes.len() + 1,
+        0 => input.job.len() / 5 + 1,
+        _ => input.job.len() + 1,
     };
-    let printed = run(program, bytes, piece)?;
-    let mut tally = tally.lock().expect("no worker has panicked");
-    tally.add(bytes, &outcome);
+    let printed = runner.run(input, piece)?;
+    let mut results = results.lock().expect("no worker has panicked");
+    results.add(input, &outcome);
     if printed != wanted {
-        tally.different += 1;
-        if tally.different <= SHOWN {
-            show(number, bytes, &printed, &wanted)?;
+        results.different += 1;
+        if results.different <= SHOWN {
+            show(number, input, &printed, &wanted)?;
         }
     }
     Ok(())
 }
 
-/// What the program prints for these bytes on its standard input, with a line at the end if it did not end with status 0.
-fn run(program: &str, bytes: &[u8], piece: usize) -> io::Result<String> {
-    let started = Command::new(program).stdin(Stdio::piped()).stdout(Stdio::piped()).spawn();
-    let mut child = started.map_err(|error| io::Error::other(format!("cannot run {program}: {error}")))?;
-    let mut printed = Vec::new();
-    feed_and_read(&mut child, bytes, piece, &mut printed)?;
-    let status = child.wait()?;
-    let mut printed = String::from_utf8_lossy(&printed).into_owned();
-    if !status.success() {
-        printed += &format!("({status})\n");
+/// Runs the program, with a file of its own for amendments.
+struct Runner<'a> {
+    program: &'a str,
+    file: PathBuf,
+}
+
+impl Runner<'_> {
+    fn new(program: &str, number: usize) -> Runner<'_> {
+        Runner { program, file: env::temp_dir().join(format!("second-{}-{number}.amendments", process::id())) }
     }
-    Ok(printed)
+
+    /// What the program prints for this input, with a line at the end if it did not end with status 0.
+    fn run(&self, input: &Input, piece: usize) -> io::Result<String> {
+        let mut command = Command::new(self.program);
+        match &input.amendments {
+            Some(amendments) => {
+                fs::write(&self.file, amendments)?;
+                command.arg(if input.map { "map" } else { "plan" }).arg(&self.file)
+            }
+            None => command.args(input.map.then_some("map")),
+        };
+        let started = command.stdin(Stdio::piped()).stdout(Stdio::piped()).spawn();
+        let mut child = started.map_err(|error| io::Error::other(format!("cannot run {}: {error}", self.program)))?;
+        let mut printed = Vec::new();
+        feed_and_read(&mut child, &input.job, piece, &mut printed)?;
+        let status = child.wait()?;
+        let mut printed = String::from_utf8_lossy(&printed).into_owned();
+        if !status.success() {
+            printed += &format!("({status})\n");
+        }
+        Ok(printed)
+    }
+}
+
+impl Drop for Runner<'_> {
+    fn drop(&mut self) {
+        // where no job came with amendments there is no file
+        let _ = fs::remove_file(&self.file);
+    }
 }
 
 /// Write and read at the same time, so that neither side waits for the other.
@@ -227,10 +190,11 @@ fn feed_and_read(child: &mut Child, bytes: &[u8], piece: usize, printed: &mut Ve
 }
 
 /// Print a difference from its first line on, and keep the bytes and both prints.
-fn show(number: u64, bytes: &[u8], printed: &str, wanted: &str) -> io::Result<()> {
+fn show(number: u64, input: &Input, printed: &str, wanted: &str) -> io::Result<()> {
     fs::create_dir_all(FOLDER)?;
     let file = Path::new(FOLDER).join(format!("{number}.job"));
-    fs::write(&file, bytes)?;
+    fs::write(&file, &input.job)?;
+    fs::write(file.with_extension("amendments"), input.amendments())?;
     fs::write(file.with_extension("printed"), printed)?;
     fs::write(file.with_extension("wanted"), wanted)?;
     let at = printed.lines().zip(wanted.lines()).take_while(|(x, y)| x == y).count();
@@ -240,40 +204,4 @@ fn show(number: u64, bytes: &[u8], printed: &str, wanted: &str) -> io::Result<()
         text.lines().skip(at).take(6).for_each(|line| println!("    {line}"));
     }
     Ok(())
-}
-
-/// Print what came of it; whether all is well.
-fn report(tally: &Tally, kind: Kind, seed: u64, jobs: u64) -> bool {
-    let refused: u64 = tally.refused.iter().sum();
-    let varied = tally.is_varied(kind, jobs);
-    println!("second: refused by reason, from 1: {:?}", &tally.refused[1..8]);
-    match kind {
-        Kind::Mixed => {
-            let (chosen, large) = (tally.chosen, tally.chosen_large);
-            println!("second: planned with a choice in a group of 2 or more counts: {chosen}; of 100 or more: {large}");
-            let [falling, weighed, groups] = tally.equals;
-            println!(
-                "second: planned with equally good fit-outs in a group with a falling count: {falling}; \
-                 with a weight: {weighed}; in two or more groups: {groups}"
-            );
-            let fixes: Vec<String> = tally.fixes().map(|(case, _, times)| format!("{case} {times}")).collect();
-            println!("second: {}: {}", CASES.0, fixes.join(", "));
-        }
-        Kind::Spoiled => {
-            println!("second: of 5 to 7 at the first row, at the last and between: {:?}", tally.rows);
-            println!("second: of 6 and 7 behind a tie that joins nothing: {}", tally.behind_fix);
-        }
-    }
-    let verdict = match tally.different {
-        0 if varied => "all equal".to_string(),
-        0 => "all equal, but FAILED: some kind of job is too rare".to_string(),
-        different => format!("{different} DIFFERENT"),
-    };
-    let (planned, no_fit) = (tally.planned, tally.no_fit);
-    let what = match kind {
-        Kind::Mixed => "jobs",
-        Kind::Spoiled => "spoiled jobs",
-    };
-    println!("second: seed {seed}, {jobs} {what} ({planned} planned, {no_fit} no fit, {refused} refused), {verdict}");
-    varied && tally.different == 0
 }

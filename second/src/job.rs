@@ -165,7 +165,7 @@ fn read_equation(row: &[u8]) -> Equation {
     }
 }
 
-fn within(x: i64, most: i64) -> bool {
+pub fn within(x: i64, most: i64) -> bool {
     -most <= x && x <= most
 }
 
@@ -173,15 +173,15 @@ fn part<const N: usize>(bytes: &[u8], at: usize) -> [u8; N] {
     bytes[at..at + N].try_into().expect("a slice of N bytes")
 }
 
-fn u16_at(bytes: &[u8], at: usize) -> usize {
+pub fn u16_at(bytes: &[u8], at: usize) -> usize {
     u16::from_le_bytes(part(bytes, at)).into()
 }
 
-fn u32_at(bytes: &[u8], at: usize) -> usize {
+pub fn u32_at(bytes: &[u8], at: usize) -> usize {
     u32::from_le_bytes(part(bytes, at)) as usize
 }
 
-fn i32_at(bytes: &[u8], at: usize) -> i64 {
+pub fn i32_at(bytes: &[u8], at: usize) -> i64 {
     i32::from_le_bytes(part(bytes, at)).into()
 }
 

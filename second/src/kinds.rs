@@ -1,5 +1,6 @@
 //! The kinds of planning calls that the sweep is to have, and of which kinds a call is.
 
+use crate::amendments::{self, amended, cases};
 use crate::call::sheet_length;
 use crate::fixes;
 use crate::job::{self, Job};
@@ -8,8 +9,9 @@ use crate::map;
 use crate::plan::Outcome;
 use crate::tally::{Part, Tally};
 
-/// With each, in how many calls there is to be one at least. Lengths are told of lawful jobs only, rows of maps that are written.
-pub const KINDS: [Part; 7] = [
+/// With each, in how many calls there is to be one at least. Lengths are told of lawful jobs with lawful amendments only, rows of maps
+/// that are written.
+pub const KINDS: [Part; 11] = [
     ("outcomes", &[("planned", 4), ("no fit", 15), ("refused", 4), ("no fit with a map", 30), ("planned with a map", 8)]),
     (
         "refused",
@@ -23,6 +25,9 @@ pub const KINDS: [Part; 7] = [
             ("for 7", 100),
             ("for 8", 8),
             ("for 10", 15),
+            ("for 11", 60),
+            ("for 12", 60),
+            ("for 13", 300),
             ("for 8 with the map short too", 50),
             ("for 10 with the area exact", 50),
         ],
@@ -55,6 +60,21 @@ pub const KINDS: [Part; 7] = [
             ("a gap", 5),
         ],
     ),
+    (
+        "amendments",
+        &[
+            ("null amendments", 8),
+            ("empty amendments", 8),
+            ("amendments at an odd address", 30),
+            ("faults of a job and of its amendments", 80),
+            ("faults of amendments with the area short", 100),
+            ("faults of amendments with the map short", 150),
+            ("faults of amendments with no fit", 200),
+        ],
+    ),
+    cases::TAKEN,
+    cases::PLACES,
+    cases::FAULTS,
     (
         "maps with",
         &[
@@ -95,8 +115,9 @@ pub fn note(tally: &mut Tally, call: &Call, outcome: &Outcome, map: &[u8]) {
     tally.add_if(call.map.is_none() && call.map_is_lent(), "null map lent");
     tally.add_if(call.map.is_none() && !call.map_is_lent(), "null map not lent");
     tally.add_if(call.lent > 1, "noise in lent");
-    tally.add_if(call.gaps != [0; 3], "a gap");
-    let Ok(job) = job::read(call.job()) else { return };
+    tally.add_if(call.gaps != [0; 4], "a gap");
+    note_amendments(tally, call, outcome);
+    let Ok(job) = amended(call.job(), call.amendments()) else { return };
     note_lengths(tally, call, &job, outcome);
     if !matches!(outcome, Outcome::Refused(_)) {
         fixes::cases(&job, outcome).into_iter().for_each(|case| tally.add(case));
@@ -105,6 +126,24 @@ pub fn note(tally: &mut Tally, call: &Call, outcome: &Outcome, map: &[u8]) {
             tally.add_if(matches!(outcome, Outcome::Planned(_)), "planned with a map");
             note_map(tally, &job, map);
         }
+    }
+}
+
+/// How the amendments come, and what other faults stand beside theirs.
+fn note_amendments(tally: &mut Tally, call: &Call, outcome: &Outcome) {
+    let bytes = call.amendments();
+    tally.add_if(call.amendments.is_none(), "null amendments");
+    tally.add_if(call.amendments.as_ref().is_some_and(Vec::is_empty), "empty amendments");
+    tally.add_if(!bytes.is_empty() && (bytes.len() + call.gaps[1]) % 2 == 1, "amendments at an odd address");
+    cases::cases(call.job(), bytes, outcome).into_iter().for_each(|case| tally.add(case));
+    let Ok(job) = job::read(call.job()) else {
+        return tally.add_if(amendments::read(bytes, job::MOST_COUNTS).is_err(), "faults of a job and of its amendments");
+    };
+    if amended(call.job(), bytes).is_err() {
+        tally.add_if(call.area().len() < sheet_length(&job), "faults of amendments with the area short");
+        tally.add_if(call.map_is_lent() && call.map().len() < map::length(&job), "faults of amendments with the map short");
+        let no_fit = job.counts.iter().any(|count| count.low > count.high);
+        tally.add_if(no_fit, "faults of amendments with no fit");
     }
 }
 

@@ -1,12 +1,14 @@
 //! A second planner, written from documents 01 and 02 and by another method, to compare the proved one with.
 //!
-//!     second plan <JOB                             prints the plan of the job on standard input
+//!     second plan [AMENDMENTS] <JOB                prints the plan of the job on standard input, amended by those in a file
 //!     second compare PROGRAM [SEED [JOBS]]         runs PROGRAM on many jobs, and compares what it prints
 //!     second spoiled PROGRAM [SEED [JOBS]]         the same, with faults at chosen places of the table
 //!     second job SEED NUMBER >JOB                  writes a job of `compare`
+//!     second amendments SEED NUMBER >AMENDMENTS    writes the amendments that it comes with
 //!     second calls [SEED [CALLS [FIRST]]]          calls the planner's archive many times, and compares the outcome and both areas
 //!     second workings [SEED [CALLS [FIRST]]]       the same with the archive's workings
 
+mod amendments;
 mod archive;
 mod big;
 mod call;
@@ -24,6 +26,7 @@ mod plain;
 mod plan;
 mod print;
 mod random;
+mod results;
 #[cfg(test)]
 mod search;
 mod sheet;
@@ -36,15 +39,17 @@ mod tests;
 mod traps;
 mod workings;
 
+use std::fs;
 use std::io::{self, Read, Write};
 use std::process::ExitCode;
 
-use compare::Kind;
+use compare::{Input, Kind};
 
-const USAGE: &str = "usage: second plan <JOB
+const USAGE: &str = "usage: second plan [AMENDMENTS] <JOB
        second compare PROGRAM [SEED [JOBS]]
        second spoiled PROGRAM [SEED [JOBS]]
        second job SEED NUMBER >JOB
+       second amendments SEED NUMBER >AMENDMENTS
        second calls [SEED [CALLS [FIRST]]]
        second workings [SEED [CALLS [FIRST]]]";
 
@@ -53,10 +58,12 @@ fn main() -> ExitCode {
     let words: Vec<&str> = words.iter().map(String::as_str).collect();
     let done = match words[..] {
         ["--help"] => io::stdout().write_all(format!("{USAGE}\n").as_bytes()).map(|()| true),
-        ["plan"] => plan_input(),
+        ["plan"] => plan_input(&[]),
+        ["plan", file] => read_file(file).and_then(|amendments| plan_input(&amendments)),
         ["compare", program, ref rest @ ..] => compare_with(Kind::Mixed, program, rest),
         ["spoiled", program, ref rest @ ..] => compare_with(Kind::Spoiled, program, rest),
-        ["job", seed, number] => write_job(seed, number),
+        ["job", seed, number] => write_input(seed, number, |input| &input.job),
+        ["amendments", seed, number] => write_input(seed, number, Input::amendments),
         ["calls", ref rest @ ..] => sweep(calls::calls, rest),
         ["workings", ref rest @ ..] => sweep(workings::workings, rest),
         _ => usage(),
@@ -71,10 +78,14 @@ fn main() -> ExitCode {
     }
 }
 
-fn plan_input() -> io::Result<bool> {
+fn read_file(name: &str) -> io::Result<Vec<u8>> {
+    fs::read(name).map_err(|error| io::Error::other(format!("cannot read {name}: {error}")))
+}
+
+fn plan_input(amendments: &[u8]) -> io::Result<bool> {
     let mut bytes = Vec::new();
     io::stdin().read_to_end(&mut bytes)?;
-    io::stdout().write_all(print::print(&plan::plan(&bytes)).as_bytes())?;
+    io::stdout().write_all(print::print(&plan::plan(&bytes, amendments)).as_bytes())?;
     Ok(true)
 }
 
@@ -92,9 +103,10 @@ fn compare_with(kind: Kind, program: &str, words: &[&str]) -> io::Result<bool> {
     }
 }
 
-fn write_job(seed: &str, number: &str) -> io::Result<bool> {
+/// A part of what `compare` gives the program.
+fn write_input(seed: &str, number: &str, part: fn(&Input) -> &[u8]) -> io::Result<bool> {
     match (seed.parse(), number.parse()) {
-        (Ok(seed), Ok(number)) => io::stdout().write_all(&compare::job_bytes(Kind::Mixed, seed, number)).map(|()| true),
+        (Ok(seed), Ok(number)) => io::stdout().write_all(part(&Input::new(Kind::Mixed, seed, number))).map(|()| true),
         _ => usage(),
     }
 }

@@ -1,8 +1,9 @@
 //! The plan of a job, by the plain method: for each group first all whole-number solutions of its ties, without any bounds
 //! and in numbers of any size; then the part of them that lies within the bounds; then the best of that part.
 
+use crate::amendments::amended;
 use crate::big::Big;
-use crate::job::{self, Equation, Job, Refusal};
+use crate::job::{Equation, Job, Refusal};
 
 #[derive(Clone, Debug, PartialEq, Eq)]
 pub enum Outcome {
@@ -34,9 +35,10 @@ pub struct GroupRow {
     pub gain: i64,
 }
 
-/// What is to be printed for these bytes. The answer area is always long enough here, so there is no reason 8.
-pub fn plan(bytes: &[u8]) -> Outcome {
-    match job::read(bytes) {
+/// What is to be printed for these bytes of a job and of its amendments. The answer area is always long enough here, so there is no
+/// reason 8.
+pub fn plan(bytes: &[u8], amendments: &[u8]) -> Outcome {
+    match amended(bytes, amendments) {
         Ok(job) => plan_job(&job),
         Err(refusal) => Outcome::Refused(refusal),
     }

@@ -4,50 +4,43 @@ use std::collections::BTreeMap;
 use std::fs;
 use std::path::Path;
 
+use crate::amendments::amended;
 use crate::fixes::{self, CASES};
-use crate::job::{self, Job};
+use crate::job::Job;
 use crate::made::{self, Size};
-use crate::map;
 use crate::plan::{plan, plan_job, Outcome, Sheet};
-use crate::print::print;
+use crate::print::{print, print_map};
 use crate::random::Random;
 use crate::search::{best, search};
 
 #[test]
 fn examples() {
     let folder = Path::new(env!("CARGO_MANIFEST_DIR")).join("../examples");
-    let (mut tried, mut maps) = (0, 0);
+    let (mut tried, mut maps, mut amended) = (0, 0, 0);
     for entry in fs::read_dir(folder).expect("the folder of examples") {
         let path = entry.expect("a file").path();
         if path.extension().is_some_and(|extension| extension == "job") {
             let bytes = fs::read(&path).expect("a job");
+            let amendments = fs::read(path.with_extension("amendments")).unwrap_or_default();
             let wanted = fs::read_to_string(path.with_extension("out")).expect("the print of an example");
-            assert_eq!(print(&plan(&bytes)), wanted, "{}", path.display());
+            assert_eq!(print(&plan(&bytes, &amendments)), wanted, "{}", path.display());
             tried += 1;
+            amended += u32::from(!amendments.is_empty());
             if let Ok(wanted) = fs::read_to_string(path.with_extension("map")) {
-                assert_eq!(map_lines(&bytes), wanted, "the map of {}", path.display());
+                assert_eq!(map_lines(&bytes, &amendments), wanted, "the map of {}", path.display());
                 maps += 1;
             }
         }
     }
-    assert!(tried >= 25 && maps >= 5, "only {tried} examples were found, with {maps} maps");
+    assert!(
+        tried >= 25 && maps >= 5 && amended >= 5,
+        "only {tried} examples were found, with {maps} maps, and {amended} with amendments"
+    );
 }
 
-/// The lines that the print program prints for the map of a job; none where it is refused.
-fn map_lines(bytes: &[u8]) -> String {
-    let Ok(job) = job::read(bytes) else { return String::new() };
-    let map = map::bytes(&job);
-    let number = |at| u16::from_le_bytes([map[at], map[at + 1]]);
-    let (n, m) = (job.counts.len(), job.equations.len());
-    let mut text = format!("map counts {} equations {} groups {}\n", number(4), number(6), number(16));
-    for (i, at) in (0..n).map(|i| (i, 24 + 4 * i)) {
-        text += &format!("map count {i} group {} equations {}\n", number(at), number(at + 2));
-    }
-    for (k, at) in (0..m).map(|k| (k, 24 + 4 * (n + k))) {
-        let kind = ["joins", "ring", "fixes"][usize::from(number(at + 2)) - 1];
-        text += &format!("map equation {k} group {} kind {kind}\n", number(at));
-    }
-    text
+/// The lines that the print program prints for the map of a job; none where it or its amendments are refused.
+fn map_lines(bytes: &[u8], amendments: &[u8]) -> String {
+    amended(bytes, amendments).map_or(String::new(), |job| print_map(&job))
 }
 
 /// How often each case of the ties that join nothing was there.

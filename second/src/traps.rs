@@ -36,7 +36,7 @@ fn expect(job: &Job, printed: &str, counts: &[(usize, usize)], equations: &[(usi
 /// The outcome with areas of these lengths that are full of 7, and what stands in them then.
 fn after(job: &Job, area: usize, map: usize) -> (Outcome, Vec<u8>, Vec<u8>) {
     let (mut area, mut map) = (vec![7; area], vec![7; map]);
-    let outcome = call(&job::write(job), &mut area, Some(&mut map));
+    let outcome = call(&job::write(job), &[], &mut area, Some(&mut map));
     (outcome, area, map)
 }
 
