@@ -15,8 +15,8 @@ pub fn agree(out: &mut impl Write, seed: u64, jobs: u64, first: u64) -> io::Resu
     let mut progress = Progress::new("jobs compared", jobs);
     for number in first..first.saturating_add(jobs) {
         let call = Call::new(seed, number);
-        match compared(&call.job, &call.area) {
-            Ok((outcome, area)) => tally.add(&call.job, &outcome, &area),
+        match compared(&call.job, &call.amendments, &call.area) {
+            Ok((outcome, area)) => tally.add(&call, &outcome, &area),
             Err(found) => {
                 writeln!(out, "bench: seed {seed}, job {number} DIFFERS; to run it again: bench agree {seed} 1 {number}")?;
                 found.iter().try_for_each(|line| writeln!(out, "bench: {line}"))?;
@@ -29,10 +29,10 @@ pub fn agree(out: &mut impl Write, seed: u64, jobs: u64, first: u64) -> io::Resu
 }
 
 /// What both give, or in words what differs.
-pub fn compared(job: &[u8], area: &[u8]) -> Result<(Outcome, Vec<u8>), Vec<String>> {
+pub fn compared(job: &[u8], amendments: &[u8], area: &[u8]) -> Result<(Outcome, Vec<u8>), Vec<String>> {
     let (mut ours, mut plain) = (area.to_vec(), area.to_vec());
-    let given = archive::plan(job, &mut ours);
-    let wanted = plain::plan(job, &mut plain).fields();
+    let given = archive::plan(job, amendments, &mut ours);
+    let wanted = plain::plan(job, amendments, &mut plain).fields();
     let mut found = Vec::new();
     if given != wanted {
         found.push(format!("outcome: the archive gives {}, the plain program {}", words(&given), words(&wanted)));
@@ -90,8 +90,12 @@ fn form(tie: &Equation) -> Option<usize> {
 struct Tally {
     planned: u64,
     no_fit: u64,
-    /// by reason, from 1
-    refused: [u64; 8],
+    /// by reason, from 1; for 5 the job's own
+    refused: [u64; 13],
+    /// refused for 5 of an amendment
+    amendment_range: u64,
+    /// with amendments: planned, and no fit
+    amended: [u64; 2],
     /// planned, with a tied group of several fits; of several with equal worth; of one fit; and as a full frame
     several: u64,
     equal: u64,
@@ -102,14 +106,17 @@ struct Tally {
 }
 
 impl Tally {
-    fn add(&mut self, job: &[u8], outcome: &Outcome, area: &[u8]) {
-        match outcome.kind {
-            1 => self.add_planned(job, &Sheet::read(area)),
-            2 => self.no_fit += 1,
-            _ => self.refused[outcome.reason as usize - 1] += 1,
+    fn add(&mut self, call: &Call, outcome: &Outcome, area: &[u8]) {
+        match (outcome.kind, outcome.reason) {
+            (1, _) => self.add_planned(&call.job, &Sheet::read(area)),
+            (2, _) => self.no_fit += 1,
+            (_, 5) if job::read(&call.job).is_ok() => self.amendment_range += 1,
+            (_, reason) => self.refused[reason as usize - 1] += 1,
         }
         if outcome.kind < 3 {
-            self.add_forms(job, outcome.kind as usize - 1);
+            let end = outcome.kind as usize - 1;
+            self.add_forms(&call.job, end);
+            self.amended[end] += u64::from(!call.amendments.is_empty());
         }
     }
 
@@ -138,18 +145,32 @@ impl Tally {
             return Vec::new();
         }
         let outcomes = [("planned", self.planned), ("no fit", self.no_fit)];
+        let [amended_planned, amended_no_fit] = self.amended;
+        let amended = [
+            ("planned as amended", amended_planned),
+            ("no fit as amended", amended_no_fit),
+            ("refused for 5 of an amendment", self.amendment_range),
+        ];
         let kinds =
             [("several fits", self.several), ("equal worth", self.equal), ("one fit", self.one), ("full frame", self.full)];
-        let named = outcomes.into_iter().chain(kinds).map(|(name, times)| (name.to_string(), times));
-        let refused = (1..).zip(self.refused).map(|(reason, times)| (format!("refused for {reason}"), times));
+        let named = outcomes.into_iter().chain(amended).chain(kinds).map(|(name, times)| (name.to_string(), times));
+        let refused = self.reasons().map(|(reason, times)| (format!("refused for {reason}"), times));
         let forms =
             FORMS.iter().zip(self.forms).map(|(name, ends)| (format!("both ends with {name}"), ends[0].min(ends[1])));
         named.chain(refused).chain(forms).filter(|(_, times)| *times == 0).map(|(name, _)| name).collect()
     }
 
+    /// Those that a call that lends no map can have.
+    fn reasons(&self) -> impl Iterator<Item = (u32, u64)> {
+        (1..).zip(self.refused).filter(|(reason, _)| ![9, 10].contains(reason))
+    }
+
     fn report(&self, out: &mut impl Write, seed: u64, jobs: u64) -> io::Result<bool> {
-        let refused: Vec<String> = (1..).zip(self.refused).map(|(reason, times)| format!("for {reason}: {times}")).collect();
+        let refused: Vec<String> = self.reasons().map(|(reason, times)| format!("for {reason}: {times}")).collect();
         writeln!(out, "bench: planned {}, no fit {}, refused {}", self.planned, self.no_fit, refused.join(", "))?;
+        let [planned, no_fit] = self.amended;
+        let range = self.amendment_range;
+        writeln!(out, "bench: with amendments planned {planned}, no fit {no_fit}, refused for 5 of an amendment {range}")?;
         writeln!(
             out,
             "bench: planned with a tied group of several fits {}, of these of equal worth {}; of one fit {}; full frames {}",

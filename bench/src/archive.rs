@@ -17,9 +17,11 @@ pub struct Outcome {
 const _: () = assert!(size_of::<Outcome>() == 24 && size_of::<usize>() == 8);
 
 extern "C" {
-    fn fit_plan_call(
+    fn fit_plan_v2(
         job: *const u8,
         job_length: usize,
+        amendments: *const u8,
+        amendments_length: usize,
         area: *mut u8,
         area_length: usize,
         map: *mut u8,
@@ -29,7 +31,10 @@ extern "C" {
 }
 
 /// A planning call that lends no map.
-pub fn plan(job: &[u8], area: &mut [u8]) -> Outcome {
+pub fn plan(job: &[u8], amendments: &[u8], area: &mut [u8]) -> Outcome {
+    let (job, job_length) = (job.as_ptr(), job.len());
+    let (amendments, amendments_length) = (amendments.as_ptr(), amendments.len());
+    let (area, area_length) = (area.as_mut_ptr(), area.len());
     // the host's duties: the lengths are those of slices, and a slice borrowed for writing overlaps with no other
-    unsafe { fit_plan_call(job.as_ptr(), job.len(), area.as_mut_ptr(), area.len(), ptr::null_mut(), 0, 0) }
+    unsafe { fit_plan_v2(job, job_length, amendments, amendments_length, area, area_length, ptr::null_mut(), 0, 0) }
 }

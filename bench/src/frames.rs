@@ -1,5 +1,7 @@
 //! The frames: jobs of full size, of one shape each.
 
+use crate::amending;
+use crate::amendments::Amendment;
 use crate::hidden::{Hidden, Steps};
 use crate::job::{Count, Equation, Job, MOST_COUNTS};
 use crate::random::Random;
@@ -83,8 +85,19 @@ impl Frame {
 
     /// One of its jobs, settled by the frame, the seed and its number.
     pub fn job(&self, seed: u64, number: u64) -> Job {
+        self.made(&mut self.random(seed, number))
+    }
+
+    /// The same with its bounds in amendments, two to a count.
+    pub fn amended(&self, seed: u64, number: u64) -> (Job, Vec<Amendment>) {
+        let random = &mut self.random(seed, number);
+        let job = self.made(random);
+        amending::in_amendments(random, job)
+    }
+
+    fn random(&self, seed: u64, number: u64) -> Random {
         let place = (self.shape as u64 * 2 + self.steps as u64) * 1_000 + self.counts as u64;
-        self.made(&mut Random::new(seed, place * 1_000_000 + number))
+        Random::new(seed, place * 1_000_000 + number)
     }
 
     pub fn made(&self, random: &mut Random) -> Job {
@@ -168,6 +181,7 @@ fn narrowing(random: &mut Random, hidden: &Hidden) -> Vec<Count> {
 #[cfg(test)]
 mod tests {
     use super::*;
+    use crate::amendments::{self, MOST_AMENDMENTS};
     use crate::archive::Outcome;
     use crate::job::{self, MOST_EQUATIONS};
     use crate::plain;
@@ -175,7 +189,7 @@ mod tests {
 
     fn planned(job: &Job) -> (Outcome, Sheet) {
         let mut area = vec![0; 8_216];
-        let outcome = plain::plan(&job::write(job), &mut area).fields();
+        let outcome = plain::plan(&job::write(job), &[], &mut area).fields();
         (outcome, Sheet::read(&area))
     }
 
@@ -220,6 +234,18 @@ mod tests {
             let equations = whole.equations.iter().filter(named).copied().collect();
             let sheet = planned(&Job { counts: whole.counts[..i].to_vec(), equations }).1;
             assert_eq!(sheet.groups[0].fits as usize, 1_002 - i);
+        }
+    }
+
+    /// Amended it is planned as the frame is, and without its amendments it has no fit.
+    #[test]
+    fn amended() {
+        for frame in Frame::all() {
+            let (other, all) = frame.amended(1, 0);
+            assert_eq!(all.len(), MOST_AMENDMENTS, "{}", frame.name());
+            let job = amendments::amended(other.clone(), &amendments::write(&all));
+            assert_eq!(job, Ok(frame.job(1, 0)), "{}", frame.name());
+            assert_eq!(planned(&other).0.kind, 2, "{}", frame.name());
         }
     }
 

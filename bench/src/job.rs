@@ -155,22 +155,22 @@ pub fn write(job: &Job) -> Vec<u8> {
     bytes
 }
 
-fn refused<T>(reason: u32, row: usize) -> Result<T, Refusal> {
+pub fn refused<T>(reason: u32, row: usize) -> Result<T, Refusal> {
     Err(Refusal { reason, row: row as u32 })
 }
 
-fn within(x: i32, most: i64) -> bool {
+pub fn within(x: i32, most: i64) -> bool {
     i64::from(x.unsigned_abs()) <= most
 }
 
-fn u16_at(bytes: &[u8], at: usize) -> u16 {
+pub fn u16_at(bytes: &[u8], at: usize) -> u16 {
     u16::from_le_bytes([bytes[at], bytes[at + 1]])
 }
 
-fn u32_at(bytes: &[u8], at: usize) -> u32 {
+pub fn u32_at(bytes: &[u8], at: usize) -> u32 {
     u32::from_le_bytes(bytes[at..at + 4].try_into().expect("four bytes"))
 }
 
-fn i32_at(bytes: &[u8], at: usize) -> i32 {
+pub fn i32_at(bytes: &[u8], at: usize) -> i32 {
     u32_at(bytes, at) as i32
 }

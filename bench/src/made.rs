@@ -1,5 +1,6 @@
-//! Pseudo-random jobs and areas to compare on.
+//! Pseudo-random jobs, amendments and areas to compare on.
 
+use crate::amending;
 use crate::frames::{Frame, SHAPES};
 use crate::graph::Graph;
 use crate::hidden::{Hidden, Steps};
@@ -8,9 +9,10 @@ use crate::random::Random;
 use crate::sheet;
 use crate::spoiled;
 
-/// A planning call: the bytes of a job, and an area as lent.
+/// A planning call: the bytes of a job and of its amendments, and an area as lent.
 pub struct Call {
     pub job: Vec<u8>,
+    pub amendments: Vec<u8>,
     pub area: Vec<u8>,
 }
 
@@ -27,10 +29,13 @@ impl Call {
                 spoiled::spoiled(random, job)
             }
         };
+        // where there is no job to amend, that of another
+        let amended = job::read(&job).unwrap_or_else(|_| small(random));
+        let amendments = if random.chance(50) { amending::amendments(random, &amended) } else { Vec::new() };
         let length = area_length(random, &job);
         let first = random.next() as u8;
         let area = (0..length).map(|at| first.wrapping_add((at * 7) as u8)).collect();
-        Call { job, area }
+        Call { job, amendments, area }
     }
 }
 

@@ -2,6 +2,8 @@
 //! what each takes. `bench --help` says how it is called.
 
 mod agree;
+mod amending;
+mod amendments;
 mod archive;
 mod arithmetic;
 mod frames;
@@ -28,9 +30,10 @@ use std::process::ExitCode;
 use frames::{Frame, JOBS, SHAPES};
 
 const USAGE: &str = "usage: bench [all [SEED]]                    compares on 20,000 jobs, then prints the tables
-       bench short [SEED]                    compares the frames, then prints one table, of few repetitions
+       bench short [SEED]                    compares the frames, then prints two tables, of few repetitions
        bench agree [SEED [JOBS [FIRST]]]     compares alone: outcome, and area byte for byte
-       bench one WHO FRAME JOB TIMES [SEED]  plans one job of a frame so many times, for a profiler; WHO: ours, plain or none
+       bench one WHO FRAME JOB TIMES [SEED]  plans one job of a frame so many times, for a profiler; WHO: ours, plain or none,
+                                             or ours-amended or plain-amended, with its bounds in amendments
        bench job FRAME JOB [SEED] >FILE      writes that job";
 
 /// What came of a command.
@@ -133,33 +136,34 @@ fn compare(words: &[&str], out: &mut impl Write) -> io::Result<End> {
 }
 
 fn one(who: &str, place: [&str; 2], times: &str, words: &[&str]) -> io::Result<End> {
-    let call: fn(&[u8], &mut [u8]) = match who {
-        "ours" => |job, area| _ = black_box(archive::plan(job, area)),
-        "plain" => |job, area| _ = black_box(plain::plan(job, area)),
-        "none" => |_, _| (),
-        _ => return wrong(format!("`{who}` is not ours, plain or none")),
+    let call: fn(&[u8], &[u8], &mut [u8]) = match who {
+        "ours" | "ours-amended" => |job, amendments, area| _ = black_box(archive::plan(job, amendments, area)),
+        "plain" | "plain-amended" => |job, amendments, area| _ = black_box(plain::plan(job, amendments, area)),
+        "none" => |_, _, _| (),
+        _ => return wrong(format!("`{who}` is not ours, plain or none, nor ours-amended or plain-amended")),
     };
-    let (job, times) = match (job_of(place, words), number(times)) {
-        (Ok(job), Ok(times)) => (job, times),
+    let ((frame, seed, job), times) = match (place_of(place, words), number(times)) {
+        (Ok(place), Ok(times)) => (place, times),
         (Err(why), _) | (_, Err(why)) => return wrong(why),
     };
-    let mut area = vec![0; measure::AREA];
-    (0..times).for_each(|_| call(black_box(&job), black_box(&mut area)));
+    let (job, all) = if who.ends_with("-amended") { frame.amended(seed, job) } else { (frame.job(seed, job), Vec::new()) };
+    let (job, amendments, mut area) = (job::write(&job), amendments::write(&all), vec![0; measure::AREA]);
+    (0..times).for_each(|_| call(black_box(&job), black_box(&amendments), black_box(&mut area)));
     Ok(End::Well)
 }
 
 fn write_job(place: [&str; 2], words: &[&str], out: &mut impl Write) -> io::Result<End> {
-    match job_of(place, words) {
-        Ok(job) => out.write_all(&job).map(|()| End::Well),
+    match place_of(place, words) {
+        Ok((frame, seed, job)) => out.write_all(&job::write(&frame.job(seed, job))).map(|()| End::Well),
         Err(why) => wrong(why),
     }
 }
 
-/// The bytes of a job by the words for it: frame, number, and the seed if given.
-fn job_of([frame, job]: [&str; 2], words: &[&str]) -> Result<Vec<u8>, String> {
+/// The frame, the seed and the number of a job by the words for it: frame, number, and the seed if given.
+fn place_of([frame, job]: [&str; 2], words: &[&str]) -> Result<(Frame, u64, u64), String> {
     let frame = Frame::named(frame).ok_or_else(|| format!("there is no frame `{frame}`: bench --help names them"))?;
     let seed = *numbers(words, 1)?.first().unwrap_or(&1);
-    Ok(job::write(&frame.job(seed, number(job)?)))
+    Ok((frame, seed, number(job)?))
 }
 
 fn numbers(words: &[&str], most: usize) -> Result<Vec<u64>, String> {

@@ -3,6 +3,7 @@
 use std::hint::black_box;
 use std::time::Instant;
 
+use crate::amendments;
 use crate::archive;
 use crate::frames::{Frame, JOBS};
 use crate::job;
@@ -44,11 +45,12 @@ impl Times {
 pub fn frame(frame: &Frame, seed: u64, repetitions: usize, buffers: Buffers) -> Times {
     let jobs = (0..JOBS).map(|number| job::write(&frame.job(seed, number)));
     let times: Vec<Times> = jobs.map(|job| one_job(&job, repetitions, buffers)).collect();
-    let mean = |figure: fn(&Times) -> f64| times.iter().map(figure).sum::<f64>() / times.len() as f64;
-    Times {
-        ours: Figures { minimum: mean(|t| t.ours.minimum), median: mean(|t| t.ours.median) },
-        plain: Figures { minimum: mean(|t| t.plain.minimum), median: mean(|t| t.plain.median) },
-    }
+    Times { ours: mean(&times, |t| t.ours), plain: mean(&times, |t| t.plain) }
+}
+
+fn mean<T>(times: &[T], figures: fn(&T) -> Figures) -> Figures {
+    let mean = |figure: fn(Figures) -> f64| times.iter().map(|t| figure(figures(t))).sum::<f64>() / times.len() as f64;
+    Figures { minimum: mean(|f| f.minimum), median: mean(|f| f.median) }
 }
 
 /// In turn, ours, plain, ours, plain, so that what else the machine does falls on both.
@@ -56,10 +58,43 @@ fn one_job(job: &[u8], repetitions: usize, buffers: Buffers) -> Times {
     let mut room = Room::new(buffers);
     let (mut ours, mut plain) = (Vec::with_capacity(repetitions), Vec::with_capacity(repetitions));
     for _ in 0..repetitions {
-        ours.push(room.timed(|area| archive::plan(black_box(job), area)));
-        plain.push(room.timed(|area| plain::plan(black_box(job), area)));
+        ours.push(room.timed(|area| archive::plan(black_box(job), &[], area)));
+        plain.push(room.timed(|area| plain::plan(black_box(job), &[], area)));
     }
     Times { ours: figures(ours), plain: figures(plain) }
+}
+
+/// A frame, and the same with its bounds in amendments.
+#[derive(Clone, Copy, Debug, Default)]
+pub struct AmendedTimes {
+    pub without: Times,
+    pub with: Times,
+}
+
+/// The means over the frame's jobs, as above.
+pub fn amended(frame: &Frame, seed: u64, repetitions: usize) -> AmendedTimes {
+    let times: Vec<AmendedTimes> = (0..JOBS).map(|number| one_amended(frame, seed, number, repetitions)).collect();
+    AmendedTimes {
+        without: Times { ours: mean(&times, |t| t.without.ours), plain: mean(&times, |t| t.without.plain) },
+        with: Times { ours: mean(&times, |t| t.with.ours), plain: mean(&times, |t| t.with.plain) },
+    }
+}
+
+/// All four in turn.
+fn one_amended(frame: &Frame, seed: u64, number: u64, repetitions: usize) -> AmendedTimes {
+    let job = job::write(&frame.job(seed, number));
+    let (other, amendments) = frame.amended(seed, number);
+    let (other, amendments) = (job::write(&other), amendments::write(&amendments));
+    let mut room = Room::new(Buffers::AsLeft);
+    let mut times = [const { Vec::new() }; 4];
+    for _ in 0..repetitions {
+        times[0].push(room.timed(|area| archive::plan(black_box(&job), &[], area)));
+        times[1].push(room.timed(|area| plain::plan(black_box(&job), &[], area)));
+        times[2].push(room.timed(|area| archive::plan(black_box(&other), black_box(&amendments), area)));
+        times[3].push(room.timed(|area| plain::plan(black_box(&other), black_box(&amendments), area)));
+    }
+    let [ours, plain, ours_with, plain_with] = times.map(figures);
+    AmendedTimes { without: Times { ours, plain }, with: Times { ours: ours_with, plain: plain_with } }
 }
 
 /// What an empty call takes: the clock itself, which is in every figure.

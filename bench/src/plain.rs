@@ -2,6 +2,7 @@
 //! tree, y = (p·x + o)/d; that all are whole is one congruence on x, and their bounds become bounds of x. The equations off
 //! the tree are then put to the family base + step·k that the tree leaves.
 
+use crate::amendments;
 use crate::archive;
 use crate::arithmetic::{exact, quotient};
 use crate::graph::Graph;
@@ -28,8 +29,8 @@ impl Outcome {
     }
 }
 
-pub fn plan(bytes: &[u8], area: &mut [u8]) -> Outcome {
-    let job = match job::read(bytes) {
+pub fn plan(bytes: &[u8], amendments: &[u8], area: &mut [u8]) -> Outcome {
+    let job = match job::read(bytes).and_then(|job| amendments::amended(job, amendments)) {
         Ok(job) => job,
         Err(refusal) => return Outcome::Refused(refusal),
     };

@@ -1,7 +1,8 @@
-//! Both programs on document 01's "Jobs to try", on the ties of document 02's #102, and on many jobs with overflow checks where the
-//! build has them.
+//! Both programs on document 01's "Jobs to try", on the ties of document 02's #102 and the amendments of its #105, and on many jobs with
+//! overflow checks where the build has them.
 
 use crate::agree;
+use crate::amendments::{self, Amendment};
 use crate::archive::Outcome;
 use crate::job::{self, Count, Equation, Job};
 use crate::sheet::{self, CountRow, GroupRow, Sheet};
@@ -20,7 +21,7 @@ fn job_m() -> Job {
 
 /// What both give in an area of that length, whose bytes are 0xA5 before.
 fn given(job: &[u8], length: usize) -> (Outcome, Vec<u8>) {
-    agree::compared(job, &vec![0xA5; length]).unwrap_or_else(|found| panic!("{found:?}"))
+    agree::compared(job, &[], &vec![0xA5; length]).unwrap_or_else(|found| panic!("{found:?}"))
 }
 
 fn sheet(job: &Job) -> Sheet {
@@ -232,6 +233,69 @@ fn one_count_of_a_group() {
     for equation in [(1, 1, 1, 1, 5), (1, 1, 1, 0, 10), (0, 0, 1, 0, 6), (0, 1, 0, 0, 1)] {
         assert_eq!(both(equation).map(|job| no_fit(&job)), [0; 2]);
     }
+}
+
+/// Number, the number that it supersedes, count, low and high.
+type Row = (u32, u32, u16, i32, i32);
+
+fn amended(job: &Job, rows: &[Row]) -> Outcome {
+    let row = |&(number, supersedes, count, low, high): &Row| Amendment { number, supersedes, count, zero: 0, low, high };
+    let bytes = amendments::write(&rows.iter().map(row).collect::<Vec<Amendment>>());
+    agree::compared(&job::write(job), &bytes, &[0xA5; 200]).unwrap_or_else(|found| panic!("{found:?}")).0
+}
+
+/// Job M with the weight 1 for its count 3, which is 2..5.
+fn job_m_and_one() -> Job {
+    let mut job = job_m();
+    job.counts[3].weight = 1;
+    job
+}
+
+#[test]
+fn amendments_in_force() {
+    let worth = |rows: &[Row]| {
+        let outcome = amended(&job_m_and_one(), rows);
+        (outcome.kind, outcome.worth)
+    };
+    assert_eq!(worth(&[]), (1, 319));
+    assert_eq!(worth(&[(1, 0, 3, 2, 9)]), (1, 323));
+    assert_eq!(worth(&[(1, 0, 3, 2, 9), (2, 1, 3, 2, 3)]), (1, 317));
+    // the first does not come back
+    assert_eq!(worth(&[(7, 0, 3, 2, 9), (8, 7, 3, 5, 2), (9, 8, 3, 2, 3)]), (1, 317));
+    assert_eq!(worth(&[(1, 0, 3, 5, 2)]), (2, 0));
+    // 11, 176 and 6 of group 0 are one step too far: 8, 128 and 4 are worth 82 less
+    assert_eq!(worth(&[(1, 0, 1, 0, 175)]), (1, 237));
+    let job = made(&[(9, 0, 1)], &[]);
+    assert_eq!((amended(&job, &[]).kind, amended(&job, &[(1, 0, 0, 0, 9)]).worth), (2, 9));
+}
+
+#[test]
+fn amendments_refused() {
+    let refused = |rows: &[Row]| {
+        let outcome = amended(&job_m(), rows);
+        (outcome.reason, outcome.row)
+    };
+    let first = (1, 0, 0, 0, 9);
+    assert_eq!([refused(&[(0, 0, 0, 0, 9)]), refused(&[(1, 1, 0, 0, 9)]), refused(&[(1, 0, 4, 0, 9)])], [(12, 0); 3]);
+    assert_eq!([refused(&[first, (1, 0, 1, 0, 9)]), refused(&[first, (2, 1, 1, 0, 9)])], [(12, 1); 2]);
+    assert_eq!([refused(&[first, (2, 0, 0, 0, 9)]), refused(&[first, (2, 3, 0, 0, 9)])], [(13, 1), (12, 1)]);
+    assert_eq!(refused(&[first, (2, 1, 0, 0, 9), (3, 1, 0, 0, 9)]), (13, 2));
+    assert_eq!(refused(&[first, (2, 0, 0, 0, 9), (3, 2, 0, 0, 9)]), (13, 2));
+    let past = 1_000_000_001;
+    assert_eq!([refused(&[(1, 0, 0, 0, past)]), refused(&[(1, 0, 0, -past, 9), (2, 1, 0, 0, 9)])], [(5, 0); 2]);
+    assert_eq!(refused(&[(1, 0, 0, 0, past), (2, 0, 0, 0, 9)]), (13, 1));
+    let chain = |many: u32| -> Vec<Row> { (1..=many).map(|number| (number, number - 1, 0, 0, 20)).collect() };
+    assert_eq!((amended(&job_m(), &chain(512)).worth, refused(&chain(513))), (314, (11, 0)));
+    let bytes = |job: &[u8], amendments: &[u8]| {
+        let outcome = agree::compared(job, amendments, &[]).unwrap_or_else(|found| panic!("{found:?}")).0;
+        (outcome.reason, outcome.row)
+    };
+    // in no area at all: the length, then a zero field, then reason 8; the job's own reasons before them
+    let mut zero_field = [1, 0, 0, 0, 0, 0, 0, 0, 0, 0, 0, 128, 0, 0, 0, 0, 9, 0, 0, 0, 0];
+    let job = job::write(&job_m());
+    assert_eq!([bytes(&job, &zero_field), bytes(&job, &zero_field[..20])], [(11, 0); 2]);
+    zero_field[11] = 0;
+    assert_eq!([bytes(&job, &zero_field[..20]), bytes(&job[..23], &zero_field)], [(8, 0), (1, 0)]);
 }
 
 /// In a build for tests a number that does not fit i128 stops the plain program.
