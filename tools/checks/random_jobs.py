@@ -1,4 +1,4 @@
-"""Pseudo-random jobs as text: named and not, planned, without a fit-out, and faulty."""
+"""Pseudo-random jobs as text: named and not, planned, without a fit-out, and faulty; and amendments to them."""
 
 NAMES = ("cards", "extensions", "ringing units", "cords", "Klappen", "trunk lines B2", "a_b", "Weckrufe früh", "spares", "E9", "left")
 LIMIT = 1_000_000_000
@@ -93,4 +93,63 @@ def faulty(chance):
             )
         ),
     )
+    return "\n".join(lines) + "\n"
+
+
+# ---- amendments, as sheets (number, supersedes, count, low, high)
+
+
+def bounds_near(chance, low, high, width):
+    """Bounds near others, tighter or wider, or without an end; now and then the low above the high."""
+    low, high = (max(-LIMIT, min(LIMIT, end + chance.randint(-width, width))) for end in (low, high))
+    kind = chance.random()
+    if kind < 0.1:
+        low = -LIMIT
+    elif kind < 0.2:
+        high = LIMIT
+    elif kind < 0.23 and low > -LIMIT:
+        low, high = high, low - 1
+    return low, high
+
+
+def sheets(chance, job):
+    """Lawful sheets: each for a count that has none yet, or in place of the last one for it."""
+    found, last, number, n = [], {}, 0, len(job.counts)
+    counts = [chance.randrange(n) for _ in range(chance.choice((1, 2, 3)) if n < 10 else n)]
+    for _ in range(chance.randint(1, 10 if n < 10 else 2 * n)):
+        number, i = number + chance.choice((1, 1, 2, 1000)), chance.choice(counts)
+        found.append((number, last.get(i, 0), i, *bounds_near(chance, job.counts[i].low, job.counts[i].high, chance.choice((1, 4, 30)))))
+        last[i] = number
+    return found
+
+
+def faulty_sheets(chance, job):
+    """Lawful sheets, with one or two changes that are most often not."""
+    found, n = sheets(chance, job), len(job.counts)
+    for _ in range(chance.choice((1, 1, 2))):
+        at = chance.randrange(len(found))
+        number, old, i, low, high = found[at]
+        wide, next_number = chance.choice((-LIMIT - 1, LIMIT + 1, -(2**31), 2**31 - 1)), found[-1][0] + 1
+        if chance.random() < 0.35:
+            found[at] = (number, old, i, *chance.choice(((wide, high), (low, wide))))
+            continue
+        more = [
+            (next_number, 0, i, low, high),
+            (next_number, number, i, low, high),
+            (next_number, number, (i + 1) % n, low, high),
+            (next_number, next_number + chance.randint(0, 1), i, low, high),
+            (next_number, 0, n + chance.randint(0, 3), low, high),
+            (chance.choice((0, number)), 0, i, low, high),
+        ]
+        found.insert(chance.choice((at, len(found), len(found))), chance.choice(more))
+    return found
+
+
+def sheets_text(chance, job, found):
+    """The sheets as text, with comments between them; counts by name or by number."""
+    lines = []
+    for number, old, i, low, high in found:
+        count = chance.choice((job.name(i), f"c{i}", str(i)))
+        lines.append(f"sheet {number} {f'supersedes {old} ' if old else ''}count {count} {low}..{high}")
+        lines += ["# by letter"] * (chance.random() < 0.1)
     return "\n".join(lines) + "\n"

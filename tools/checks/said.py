@@ -1,9 +1,10 @@
 """An explanation of ./fitplan, read back word by word and judged. Every function gives the faults that it finds."""
 
+import itertools
 import re
 from fractions import Fraction
 
-from . import judge
+from . import judge, sheets
 
 LIMIT = 1_000_000_000
 NUMBER = r"-?[\d,]*\d"
@@ -15,6 +16,8 @@ CHOSEN = re.compile(
     r"(, a gain, so the last|, a loss, so the first|, so all are worth the same, and the last, with the most at (.*),)"
     r" is chosen: (.*)\.$"
 )
+SHEET = r"sheet \d+ \(.*?\)"
+IN_FORCE = re.compile(rf"  ({SHEET}): (.*) ({NUMBER}) to ({NUMBER}) in place of ({NUMBER}) to ({NUMBER})")
 SUMMAND = re.compile(r"(-?)([\d,]*\d) \((?:group (\d+)|(untied counts)|([\d,]+) others)\)")
 
 
@@ -37,11 +40,14 @@ def says(tie):
 
 
 class Explained:
-    """A job, the lines of its explanation, and what is wrong with them."""
+    """A job with its amendments, the lines of its explanation, and what is wrong with them. places: how the place of each sheet is
+    called."""
 
-    def __init__(self, job, lines):
-        self.job, self.lines = job, lines
-        self.bounds = [(count.low, count.high) for count in job.counts]
+    def __init__(self, job, lines, amendments=b"", places=()):
+        self.job, self.lines, self.packed, self.places = job, lines, amendments, places
+        self.rows = sheets.rows_of(amendments)
+        self.force = sheets.force(self.rows)
+        self.bounds = sheets.bounds_in_force([(count.low, count.high) for count in job.counts], self.rows)
         self.ties = [(tie.left, tie.right, tie.a, tie.b, tie.c) for tie in job.ties]
         self.number = {job.name(i): i for i in range(len(job.counts))}
         self.faults = []
@@ -54,6 +60,16 @@ class Explained:
         """The counts of a list of names, and how many more are only counted."""
         shown, _, more = re.match(r"(.*?)( and ([\d,]+) more)?$", text).groups()
         return [self.number[name] for name in shown.split(", ")], value(more or "0")
+
+    # ---- sheets
+
+    def sheet(self, t):
+        """How the sheet in row t is called."""
+        return f"sheet {self.rows[t][0]} ({self.places[t]})"
+
+    def sheet_of(self, i):
+        """The one that gives a count its bounds, or None."""
+        return self.sheet(self.force[i]) if i in self.force else None
 
     # ---- sums
 
@@ -91,10 +107,31 @@ class Explained:
         return total + left
 
 
+# ---- amendments
+
+
+def in_force(told):
+    """The lines on the sheets in force: each of them, in turn, with its bounds and those of the job. They are taken out of the lines."""
+    if not told.rows:
+        return
+    first, lines = told.lines[1], list(itertools.takewhile(lambda line: line.startswith("  "), told.lines[2:]))
+    told.lines = told.lines[:1] + told.lines[2 + len(lines) :]
+    told.hold(first == f"In force, of {len(told.rows):,} sheet{'s' if len(told.rows) > 1 else ''}:", f"how many sheets: {first}")
+    rows = [t for t in range(len(told.rows)) if sheets.is_in_force(told.rows, t)]
+    more = re.fullmatch(r"  and ([\d,]+) more", lines[-1])
+    told.hold(len(rows) == (len(lines) - 1 + value(more.group(1)) if more else len(lines)), "how many are in force")
+    for line, t in zip(lines[:-1] if more else lines, rows):
+        sheet, name, *bounds = IN_FORCE.fullmatch(line).groups()
+        _, _, i, _, low, high = told.rows[t]
+        told.hold(sheet == told.sheet(t) and told.number[name] == i, f"another sheet: {line}")
+        told.hold([value(end) for end in bounds] == [low, high, told.job.counts[i].low, told.job.counts[i].high], f"other bounds: {line}")
+
+
 # ---- planned
 
 
 def planned(told, worth):
+    in_force(told)
     best = [judge.fits(members, told.bounds, told.ties) for members in judge.groups(len(told.bounds), told.ties)]
     told.hold(None not in best, "planned, and the judge finds no fit-out")
     if told.faults or not best:
@@ -182,9 +219,10 @@ def stops(told, text, would):
     if more:
         parts.pop()
     for part in parts:
-        name, at, side, bound = re.match(rf"(.*) at ({NUMBER}), (below|above) ({NUMBER})$", part).groups()
+        name, at, side, bound, sheet = re.match(rf"(.*) at ({NUMBER}), (below|above) ({NUMBER})(?: \((sheet \d+)\))?$", part).groups()
         stop = (told.number[name], value(at), side, value(bound))
         told.hold(stop in broken, f"'{part}' is no stop")
+        told.hold((told.sheet_of(stop[0]) or "").split(" (")[0] == (sheet or ""), f"'{part}' has another sheet")
         broken.discard(stop)
     told.hold(len(broken) == (value(more.group(1)) if more else 0), "a stop is left out")
 
@@ -279,6 +317,7 @@ def total(told, last, worths, worth):
 
 def no_fit(told, count, tried=None):
     """The named rows: of the group, alone without a fit-out, and with one when any is left out, or when any of those tried is."""
+    in_force(told)
     groups = judge.groups(len(told.bounds), told.ties)
     members = next(members for members in groups if judge.fits(members, told.bounds, told.ties) is None)
     told.hold(count == members[0], "the first group without a fit-out is another")
@@ -304,10 +343,12 @@ def part(told, line):
         rows = [told.ties[int(k)]] if k else [(t.left, t.right, t.a, t.b, t.c) for t in told.job.ties if t.line == int(text_line)]
         told.hold(rows[0][4] == value(side) and told.is_left_side(left, rows[0]), f"another tie stands at {line}")
         return "tie", rows[0]
-    name, side, bound = re.match(rf"  (?:line \d+: )?(.*) (at least|at most) ({NUMBER})$", line).groups()
-    kind = "low" if side == "at least" else "high"
-    told.hold(told.bounds[told.number[name]][kind == "high"] == value(bound), f"another bound: {line}")
-    return kind, told.number[name]
+    place, name, side, bound = re.match(rf"  (?:({SHEET}|line \d+): )?(.*) (at least|at most) ({NUMBER})$", line).groups()
+    i, kind = told.number[name], "low" if side == "at least" else "high"
+    own = f"line {told.job.counts[i].line}" if told.job.counts[i].line else None
+    told.hold(told.bounds[i][kind == "high"] == value(bound), f"another bound: {line}")
+    told.hold(place == (told.sheet_of(i) or own), f"another place: {line}")
+    return kind, i
 
 
 def kept(told, members, rows, extra=()):
@@ -422,6 +463,14 @@ def fraction(text):
 def refused(told, reason, row):
     told.hold(told.lines[0].startswith(f"refused, reason {reason}: "), "the reason")
     told.hold(len(told.lines) > 1, "no field is named")
+    of_sheets = reason > 10 or reason == 5 and not any(is_wide(count) for count in told.job.counts)
+    whose = "a sheet's " if of_sheets else "a count's "
+    told.hold(reason != 5 or told.lines[0].startswith(f"refused, reason 5: {whose}"), "the job or its amendments")
+    if of_sheets:
+        told.hold(sheets.refusal(len(told.job.counts), told.packed) == (reason, row), "another reason, or another row")
+        for line in told.lines[1:]:
+            refused_sheet(told, reason, row, line)
+        return
     for line in told.lines[1:]:
         field = re.match(rf"  (?:(.*) \(line (\d+)\)|line (\d+)): the (.*?),? is ({NUMBER}), and may be ", line)
         if reason == 5:
@@ -439,3 +488,35 @@ def refused(told, reason, row):
             tie = told.job.ties[row]
             missing = re.match(rf"  line {tie.line}: there is no count c(\d+): ", line)
             told.hold(missing and int(missing.group(1)) in (tie.left, tie.right) and int(missing.group(1)) >= len(told.job.counts), line)
+
+
+def is_wide(count):
+    """Whether a field of a count is out of its range."""
+    return max(abs(count.low), abs(count.high)) > LIMIT or abs(count.weight) > 1_000_000
+
+
+def refused_sheet(told, reason, row, line):
+    """A line on a sheet that is refused: it names the sheet and its place, and what it says of it is so."""
+    sheet, words = re.fullmatch(rf"  ({SHEET}): (.*)\.", line).groups()
+    number, old, count, _, low, high = told.rows[row]
+    told.hold(sheet == told.sheet(row), f"another sheet: {line}")
+    n, name, before = len(told.job.counts), told.job.name(count), told.rows[:row]
+    if reason == 5:
+        field, there = re.match(rf"the (low|high) is ({NUMBER}), and may be -1,000,000,000 to 1,000,000,000$", words).groups()
+        told.hold(value(there) == {"low": low, "high": high}[field] and abs(value(there)) > LIMIT, line)
+    elif reason == 13:
+        other = re.fullmatch(rf"{re.escape(name)} has a sheet in force already, ({SHEET}): .*", words).group(1)
+        first = next(t for t, one in enumerate(before) if one[2] == count and sheets.is_in_force(told.rows, t))
+        told.hold(other == told.sheet(first), line)
+    elif words.startswith("the number"):
+        last = before[-1][0] if before else 0
+        zero = words == "the number is 0, and may be 1 to 4,294,967,295" and number == 0
+        told.hold(zero or number <= last and words.startswith(f"the number, {number}, is not above {last}, "), line)
+    elif words.startswith("there is no count"):
+        told.hold(count >= n and words.startswith(f"there is no count c{count}: "), line)
+    else:
+        why = re.fullmatch(
+            rf"it supersedes sheet {old}, (which .*): it may supersede an earlier one for {re.escape(name)}, or none", words
+        ).group(1)
+        others = [told.job.name(one[2]) for one in before if one[0] == old]
+        told.hold(why == (f"which is for {others[0]}" if others else "which does not stand before it") and name not in others, line)

@@ -1,11 +1,11 @@
-"""What the checks of tools/export and tools/draw share: a tally, a command that is run, pseudo-random jobs as text."""
+"""What the checks of tools/export and tools/draw share: a tally, a command that is run, examples, pseudo-random jobs as text."""
 
 import pathlib
 import random
 import subprocess
 import sys
 
-from fitout import source
+from fitout import amendments, planner, source
 
 from . import random_jobs
 
@@ -47,8 +47,22 @@ def full_device(command):
     return ran.returncode, ran.stderr.decode()
 
 
-def example_texts():
-    return sorted((ROOT / "examples").glob("*.txt"))
+def examples():
+    """The texts of the examples as the words of a command: each job, and its amendments, as text or bytes, where there are any."""
+    jobs = sorted(path for path in (ROOT / "examples").glob("*.txt") if not path.name.endswith(".amendments.txt"))
+    sheets = [[path for path in (job.with_suffix(".amendments.txt"), job.with_suffix(".amendments")) if path.exists()] for job in jobs]
+    return [[f"examples/{path.name}" for path in (job, *found[:1])] for job, found in zip(jobs, sheets)]
+
+
+def example(names):
+    """An example as it is read, and the planner's answer."""
+    given = source.read(*(str(ROOT / name) for name in names))
+    return given, planner.ask(given.data, given.amendments)
+
+
+def refused_file(names, given):
+    """The file of an example that the planner refuses: the job, where it refuses that alone, or the amendments."""
+    return names[0] if planner.ask(given.data).kind == "refused" else names[-1]
 
 
 def read(text):
@@ -80,6 +94,24 @@ def small_job(chance):
 def small_jobs(seed, many):
     chance = random.Random(seed)
     return [small_job(chance) for _ in range(many)]
+
+
+def small_sheets(chance, job):
+    """The bytes of lawful sheets for a small job: for one count or two, with small ranges."""
+    found, last = [], {}
+    for number in range(1, chance.randint(1, 4) + 1):
+        i = chance.choice((0, len(job.counts) - 1))
+        low = job.counts[i].low + chance.randint(-3, 3)
+        found.append(amendments.Sheet(number, last.get(i, 0), i, 0, low, low + chance.randint(-1, 8)))
+        last[i] = number
+    return amendments.packed(found)
+
+
+def amended(chance, job):
+    """A small job as it is read, in a third of all cases with amendments; and the planner's answer."""
+    data = small_sheets(chance, job) if chance.random() < 0.33 else b""
+    given = source.Source("a job", job.packed(), job, (), "sheets", data, amendments.unpacked(data, "sheets"))
+    return given, planner.ask(given.data, data)
 
 
 # ---- larger ones, by how they hang together

@@ -44,27 +44,36 @@ def say(name, message):
 
 
 def options(words, known):
-    """The options among the words, as a set, and the other words. A lone - is no option, nor is what stands behind --."""
-    found, others = set(), []
+    """The options among the words, as a set, and the other words. A lone - is no option, nor is what stands behind --. What is known as
+    --job=JOB takes a value."""
+    found, others, valued = set(), [], tuple(option[: option.index("=") + 1] for option in known if "=" in option)
     for place, word in enumerate(words):
         if word == "--":
             return found, others + words[place + 1 :]
         if not word.startswith("-") or word == "-":
             others.append(word)
-        elif word in known:
+        elif word in known or word.startswith(valued):
             found.add(word)
         else:
             raise WrongArguments(f"unknown option {word}: it takes {', '.join(known)} (a file of that name is ./{word})")
     return found, others
 
 
-def one_file(others):
-    """The one file that a command is given."""
+def value(found, option):
+    """The value of an option that ends with =, or None where it is not among those found."""
+    values = sorted(word.removeprefix(option) for word in found if word.startswith(option))
+    if len(values) > 1:
+        raise WrongArguments(f"wrong arguments: {option}{values[0]} and {option}{values[1]}, and it takes one")
+    return values[0] if values else None
+
+
+def files(others, most):
+    """The files that a command is given: one, and so many at the most."""
     if not others:
         raise WrongArguments("wrong arguments: no file is given")
-    if len(others) > 1:
-        raise WrongArguments(f"wrong arguments: '{others[1]}' is one file too many")
-    return others[0]
+    if len(others) > most:
+        raise WrongArguments(f"wrong arguments: '{others[most]}' is one file too many")
+    return others
 
 
 def write(data, target=None):

@@ -122,7 +122,8 @@ class Picture:
     def about(self, i):
         """All of a count, for its <title>."""
         count, job = self.job.counts[i], self.job
-        words = f"{job.name(i)}, {count_place(job, i)}: {number(count.low)} to {number(count.high)}, weight {number(count.weight)}"
+        bounds = f"{number(count.low)} to {number(count.high)}{f' by {count.sheet.words()}' if count.sheet else ''}"
+        words = f"{job.name(i)}, {count_place(job, i)}: {bounds}, weight {number(count.weight)}"
         if self.answer.counts:
             row = self.answer.counts[i]
             words += f"; number {number(row.number)} (base {number(row.base)}, step {number(row.step)})"
@@ -246,6 +247,8 @@ class Picture:
         answer, job = self.answer, self.job
         counts, ties = plural(len(job.counts), "count"), plural(len(job.ties), "tie")
         size = f"{counts}, {ties}, {plural(len(self.tied) + len(self.untied), 'group')}"
+        sheets = sum(count.sheet is not None for count in job.counts)
+        size += f"; the bounds of {plural(sheets, 'count')} by sheets in force" if sheets else ""
         if answer.kind == "planned":
             return [(f"worth {number(answer.worth)}", 20, "heading"), (size, 12, "caption")]
         name = job.name(answer.count)

@@ -1,19 +1,36 @@
 """A plan, a "no fit" or a refusal, in words: from the job, the sheet and the map, with the proved planner as the only judge."""
 
-from . import conflict, contradiction, groups, refusal
-from .wording import listed, number, signed_sum
+from . import amendments, conflict, contradiction, groups, refusal, taken
+from .wording import listed, number, plural, signed_sum
 
 MOST_UNTIED = 12  # that are told one by one
+MOST_SHEETS = 12
 MOST_SUMMANDS = 8
 
 
-def words(data, job, answer):
+def words(given, answer):
     """The explanation, as lines."""
     if answer.kind == "refused":
-        return refusal.words(data, job, answer.reason, answer.row)
-    if answer.kind == "no fit":
-        return no_fit(job, answer)
-    return planned(job, answer)
+        return refusal.words(given, answer.reason, answer.row)
+    job = taken.amended(given, answer)
+    first, *others = no_fit(job, answer) if answer.kind == "no fit" else planned(job, answer)
+    return [first, *sheets(given), *others]
+
+
+# ---- amendments
+
+
+def sheets(given):
+    """Which sheets are in force, with the bounds that they replace."""
+    if not given.sheets:
+        return []
+    force = amendments.in_force(given.sheets)
+    lines = [f"In force, of {plural(len(given.sheets), 'sheet')}:"]
+    for sheet in force[:MOST_SHEETS]:
+        own = given.job.counts[sheet.count]
+        bounds = f"{number(sheet.low)} to {number(sheet.high)} in place of {number(own.low)} to {number(own.high)}"
+        lines.append(f"  {sheet.words()}: {given.job.name(sheet.count)} {bounds}")
+    return lines + [f"  and {len(force) - MOST_SHEETS:,} more"] * (len(force) > MOST_SHEETS)
 
 
 # ---- planned

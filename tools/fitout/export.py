@@ -3,7 +3,7 @@
 import re
 
 from .job import NUMBER_LIMIT
-from .wording import count_place, equation, number, plural, tie_place
+from .wording import bounds_place, equation, number, plural, tie_place
 
 WIDTH = 100  # readers of LP files take no line of more than some hundred letters
 
@@ -32,6 +32,7 @@ def about(job, answer, names):
         "Wanted: whole numbers within the bounds that keep every tie, of greatest worth.",
         f"The fit-out planner's answer: {found}.",
         *(f"{name}: {count.name}" for count, name in zip(job.counts, names) if not name.endswith(count.name)),
+        *(f"{name}: its bounds are those of amendment sheet {count.sheet.number}" for count, name in zip(job.counts, names) if count.sheet),
     ]
 
 
@@ -111,7 +112,7 @@ def smt(job, answer):
     lines += ["; z3 FILE solves it; (get-model) at the end shows the numbers too.", "(set-option :produce-models true)"]
     lines += [f"(declare-const {name} Int)" for name in names]
     for i, count in enumerate(job.counts):
-        lines.append(f"(assert (<= {smt_number(count.low)} {names[i]} {smt_number(count.high)})) ; {count_place(job, i)}")
+        lines.append(f"(assert (<= {smt_number(count.low)} {names[i]} {smt_number(count.high)})) ; {bounds_place(job, i)}")
     for k, tie in enumerate(job.ties):
         terms = [(coefficient, names[i]) for i, coefficient in tie.terms().items()]
         lines += smt_sum("(assert (=", terms, f" {smt_number(tie.c)})) ; {tie_place(job, k)}")

@@ -17,7 +17,9 @@ class Stop(NamedTuple):
     bound: int
 
     def words(self, job):
-        return f"{job.name(self.count)} at {number(self.value)}, {'below' if self.side == 'low' else 'above'} {number(self.bound)}"
+        sheet = job.counts[self.count].sheet
+        bound = f"{'below' if self.side == 'low' else 'above'} {number(self.bound)}{f' (sheet {sheet.number})' if sheet else ''}"
+        return f"{job.name(self.count)} at {number(self.value)}, {bound}"
 
 
 def beyond(job, numbers):

@@ -21,6 +21,7 @@ class Count(NamedTuple):
     weight: int = 0
     name: str = ""  # none: it is called by its number, c0
     line: int = 0  # in the text; 0 where there is no text
+    sheet: tuple | None = None  # the amendment whose bounds these are
 
 
 class Tie(NamedTuple):
@@ -114,11 +115,20 @@ def count_breaches(count):
     return outside(5, [("the low", count.low, NUMBERS), ("the high", count.high, NUMBERS), ("the weight", count.weight, WEIGHTS)])
 
 
-def tie_breaches(job, tie):
-    """Of one tie of a job: those of reason 6 before those of 7."""
+def turned_bounds(row):
+    """A warning where the low of a count or a sheet is above its high."""
+    return [f"the low, {row.low:,}, is above the high, {row.high:,}, which leaves no fit"] if row.low > row.high else []
+
+
+def missing(reason, job, counts):
+    """Those of the numbers of counts that a job does not have."""
     n = len(job.counts)
     there = f"counts are c0 to c{n - 1}" if n > 1 else "there is c0 alone" if n else "the job has no counts"
-    missing = [Breach(6, f"there is no count c{count}: {there}") for count in dict.fromkeys((tie.left, tie.right)) if count >= n]
+    return [Breach(reason, f"there is no count c{count}: {there}") for count in dict.fromkeys(counts) if count >= n]
+
+
+def tie_breaches(job, tie):
+    """Of one tie of a job: those of reason 6 before those of 7."""
     coefficients = [("a", tie.a, tie.left), ("b", tie.b, tie.right)]
     fields = [(f"the coefficient of {job.name(count)}, {field},", value, COEFFICIENTS) for field, value, count in coefficients]
-    return missing + outside(7, [*fields, ("the right-hand side, c,", tie.c, SIDES)])
+    return missing(6, job, (tie.left, tie.right)) + outside(7, [*fields, ("the right-hand side, c,", tie.c, SIDES)])

@@ -15,12 +15,13 @@ class Part(NamedTuple):
     index: int
 
     def words(self, job):
-        """With its place in the text, where there is one."""
+        """With its place in the text, where there is one; a bound that a sheet gives, with the sheet."""
         if self.kind == "tie":
             tie = job.ties[self.index]
             return f"{tie_place(job, self.index)}: {'tie ' if tie.line else ''}{equation(job, tie)}"
-        line = job.counts[self.index].line
-        return f"{f'line {line}: ' if line else ''}{job.name(self.index)} {self.bound(job)}"
+        count = job.counts[self.index]
+        place = count.sheet.words() if count.sheet else f"line {count.line}" if count.line else ""
+        return f"{place}{': ' if place else ''}{job.name(self.index)} {self.bound(job)}"
 
     def bound(self, job):
         count = job.counts[self.index]

@@ -1,6 +1,7 @@
 """The proved planner, asked for a plan through the print program. What it prints are the fields of sheet and map, so everything is
 read back from there."""
 
+import os
 import subprocess
 from typing import NamedTuple
 
@@ -50,17 +51,32 @@ class Answer:
         self.map = Map()
 
 
-def printed(data, with_map=False):
-    """What the print program prints for these bytes."""
-    words = [str(build.program()), *(["map"] if with_map else [])]
+def printed(data, amendments=b"", with_map=False):
+    """What the print program prints for these bytes of a job and of its amendments."""
+    words = [str(build.program()), "map" if with_map else "plan"]
     try:
-        ran = subprocess.run(words, input=data, stdout=subprocess.PIPE, check=False)
+        ran = run_amended(words, data, amendments) if amendments else run(words, data)
     except OSError as error:
         raise Failure(f"the planner cannot be run: {error.strerror}") from None
     text = ran.stdout.decode("ascii", "replace")
     if ran.returncode != 0 or not text.endswith("\n"):
         raise Failure(f"the planner ended with status {ran.returncode} and no whole answer")
     return text
+
+
+def run(words, data, files=()):
+    return subprocess.run(words, input=data, stdout=subprocess.PIPE, pass_fds=files, check=False)
+
+
+def run_amended(words, data, amendments):
+    """The amendments are handed over as a file in memory."""
+    file = os.memfd_create("amendments")
+    try:
+        with open(file, "wb", closefd=False) as out:
+            out.write(amendments)
+        return run([*words, f"/dev/fd/{file}"], data, [file])
+    finally:
+        os.close(file)
 
 
 def has_fit(data):
@@ -71,9 +87,9 @@ def has_fit(data):
     return text.startswith("worth")
 
 
-def ask(data, with_map=True):
+def ask(data, amendments=b"", with_map=True):
     """The planner's answer, read back from its lines."""
-    answer = Answer(printed(data, with_map))
+    answer = Answer(printed(data, amendments, with_map))
     for line in answer.printed.splitlines():
         words = line.split()
         numbers = [int(word) for word in words if word.lstrip("-").isdigit()]

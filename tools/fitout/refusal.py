@@ -2,8 +2,9 @@
 
 import struct
 
+from . import amendments, planner
 from .job import COUNT_LENGTH, HEADER_LENGTH, LONGEST, MARK, MOST_COUNTS, MOST_TIES, TIE_LENGTH, count_breaches, tie_breaches
-from .wording import count_place, number, tie_place
+from .wording import count_place, number, plural, tie_place
 
 # of every reason that a planning call can give; the print program lends areas that are long enough, so it never gives 8 or 10
 REASONS = {
@@ -16,14 +17,23 @@ REASONS = {
     7: "a tie's coefficient or right-hand side is out of range",
     8: "the area for the sheet is too short",
     10: "the area for the map is too short",
+    11: "the amendments are not rows of 20 bytes, 512 at the most, each with a zero field of 0",
+    12: "a sheet's number, its count or the sheet that it supersedes is not as it has to be",
+    13: "two sheets for one count are in force",
 }
+IN_SHEET = {**REASONS, 5: "a sheet's low or high is out of range"}
 
 
-def words(data, job, reason, row):
+def words(given, reason, row):
     """The lines that explain it."""
+    if of_amendments(given, reason):
+        return lines(reason, IN_SHEET, in_amendments(given, reason, row))
     told = {3: too_many, 5: in_count, 6: in_tie, 7: in_tie}.get(reason)
-    fields = told(job, reason, row) if told and job else in_header(data, reason)
-    return [f"refused, reason {reason}: {REASONS.get(reason, 'no reason that this command knows')}.", *(f"  {field}." for field in fields)]
+    return lines(reason, REASONS, told(given.job, reason, row) if told and given.job else in_header(given.data, reason))
+
+
+def lines(reason, reasons, fields):
+    return [f"refused, reason {reason}: {reasons.get(reason, 'no reason that this command knows')}.", *(f"  {field}." for field in fields)]
 
 
 def too_many(job, reason, row):
@@ -70,6 +80,26 @@ def laid_out_wrong(data, n, m):
         there = f"more than {number(LONGEST)}" if len(data) > LONGEST else number(len(data))
         wrong.append(f"There are {there} bytes; {rows} take {number(length)}")
     return wrong
+
+
+def of_amendments(given, reason):
+    """Whether a reason is given for the amendments. 5 is given for both, and for the job's own rows first: the planner is asked for the
+    job alone."""
+    return reason in (11, 12, 13) or reason == 5 and bool(given.amendments) and planner.ask(given.data).kind != "refused"
+
+
+def in_amendments(given, reason, row):
+    length, sheets = len(given.amendments), given.sheets
+    if reason == 11 and len(sheets) > amendments.MOST_SHEETS:
+        return [f"There are {number(len(sheets))} sheets; {amendments.MOST_SHEETS} are the most"]
+    if reason == 11 and length > amendments.LONGEST:
+        most = f"{amendments.MOST_SHEETS} sheets, of {amendments.ROW.size} bytes each, are the most"
+        return [f"There are more than {number(amendments.LONGEST)} bytes; {most}"]
+    if reason == 11 and length % amendments.ROW.size:
+        rest = f"behind {plural(len(sheets), 'whole sheet')} there is a rest of {length % amendments.ROW.size}"
+        return [f"The length is {number(length)}, which is not a multiple of {amendments.ROW.size}: {rest}"]
+    breaches = [breach for at, breach in amendments.breaches(sheets, given.job) if at == row and breach.reason == reason]
+    return [f"{sheets[row].words()}: {breach.words}" for breach in breaches]
 
 
 def as_text(data):

@@ -25,36 +25,22 @@ a warning: a number has to fit its field, and need not be in its range (docs/FOR
 """
 
 import re
-import unicodedata
 
-from .job import COEFFICIENTS, MOST_COUNTS, MOST_TIES, NUMBERS, SIDES, WEIGHTS, Count, Job, Tie, count_breaches, range_text, tie_breaches
+from .job import COEFFICIENTS, MOST_COUNTS, MOST_TIES, NUMBERS, SIDES, WEIGHTS, Count, Job, Tie
+from .job import count_breaches, range_text, tie_breaches, turned_bounds
+from .statement import BETWEEN, NUMBERED, Fault, Field, Grammar, Reader, Statement, begins, is_number, lines_of, value_of
 from .wording import listed
 
-TOKEN = re.compile(r"[0-9]{1,3}(?:[,_][0-9]{3})+(?![0-9])|[0-9]+|[^\W\d_]\w*|\.\.(?!\.)|[-−–+*·×=,]")
-FRACTION = re.compile(r"[0-9][0-9,_]*(?:\.(?!\.)|/|,(?=[0-9]))[0-9]*|\.[0-9]+|/")
-COMPARISON = re.compile(r"[<>≤≥≠!]=?|==|=[<>]")
-SIGNS = str.maketrans("−–·×", "--**")
-NUMBERED = re.compile(r"c[0-9]+")
 COUNTED = re.compile(r"\bcount\s+((?:[^\W\d]\w*[ ,]*)+)")
 MOST_LETTERS = 40  # of a name
-MOST_HINTS, MOST_NAMES = 50, 1000  # a hint takes a while where there are many names
 WORDS = ("count", "tie", "weight", "times")
-BETWEEN = " (a ; or a new line stands between statements)"
-
-
-class Field:
-    """What a number has to be: it is packed where it fits its bytes, and taken by the planner where it is in its range."""
-
-    def __init__(self, what, least, most, allowed):
-        self.what, self.least, self.most, self.allowed = what, least, most, allowed
-
-    def hold(self, value):
-        """The value, if its bytes can hold it."""
-        if not self.least <= value <= self.most:
-            shown = f"{value:,}" if abs(value) < 10**24 else f"{value:.6e}"
-            raise Fault(f"{self.what} is {shown}, and may be {self.allowed}")
-        return value
-
+GRAMMAR = Grammar(
+    begins=("count", "tie"),
+    words=WORDS,
+    reserved=WORDS,
+    compared="ties are equations, with one =; a least and a most stand in a count, as LOW..HIGH",
+    elsewhere={"sheet": "amendments are a text of their own"},
+)
 
 LOW = Field("the low", -(2**31), 2**31 - 1, range_text(NUMBERS))
 HIGH = Field("the high", -(2**31), 2**31 - 1, range_text(NUMBERS))
@@ -64,119 +50,6 @@ SIDE = Field("the right-hand side", -(2**63), 2**63 - 1, range_text(SIDES))
 NUMBER = Field("the number of a count", 0, 2**16 - 1, f"0 to {MOST_COUNTS - 1}")
 TIMES = Field("times", 0, 2**16 - 1, "0 to 65,535")
 MOST_ROWS = 2**16 - 1  # that the header can tell
-
-
-class Fault(Exception):
-    """What is wrong with a statement. Where a word is not known, those that may be meant."""
-
-    def __init__(self, words, word="", known=()):
-        super().__init__(words)
-        self.words, self.word, self.known = words, word, known
-
-    def told(self, with_hint):
-        return self.words + (meant(self.word, self.known) if with_hint and 0 < len(self.known) <= MOST_NAMES else "")
-
-
-def meant(word, known):
-    """A hint, where a known word is nearly the one that stands there."""
-    import difflib  # takes as long as all the rest, and only a fault needs it
-
-    near = difflib.get_close_matches(word.lower(), known, 1, 0.7)
-    return f" (is '{near[0]}' meant?)" if near and near[0] != word else ""
-
-
-# ---- tokens
-
-
-def tokens_of(text):
-    """The numbers, words and signs of a statement."""
-    tokens, at = [], 0
-    while at < len(text):
-        if text[at].isspace():
-            at += 1
-            continue
-        found, fraction, token = COMPARISON.match(text, at), FRACTION.match(text, at), TOKEN.match(text, at)
-        if found:
-            raise Fault(f"'{found.group()}': ties are equations, with one =; a least and a most stand in a count, as LOW..HIGH")
-        if text.startswith("...", at) or text[at] == "…":
-            raise Fault("two dots stand between low and high: LOW..HIGH")
-        if fraction and (not token or fraction.end() > token.end()):
-            raise Fault(f"'{fraction.group()}': whole numbers only, grouped by threes with , or _ if at all")
-        if text[at].isnumeric() and not text[at].isascii():
-            raise Fault(f"'{text[at]}': whole numbers only, in the digits 0 to 9")
-        if not token:
-            raise Fault(f"'{text[at:].split()[0][:40]}' is not understood")
-        tokens.append(token.group().translate(SIGNS))
-        at = token.end()
-    return tokens
-
-
-def is_number(token):
-    return token[:1].isdigit()
-
-
-def is_word(token):
-    return token[:1].isalpha()
-
-
-def value_of(token):
-    digits = token.replace(",", "").replace("_", "").lstrip("0") or "0"
-    # no field holds more than 19 digits; a number of very many is not even converted
-    return int(digits[:40])
-
-
-class Statement:
-    """The tokens of a statement, taken from the left."""
-
-    def __init__(self, tokens):
-        self.tokens, self.at = tokens, 0
-
-    def next(self):
-        return self.tokens[self.at] if self.at < len(self.tokens) else ""
-
-    def pop(self):
-        self.at += 1
-        return self.tokens[self.at - 1]
-
-    def shown(self):
-        return f"'{self.next()}'" if self.next() else "the end of the line"
-
-    def take(self, *wanted):
-        """Whether the next token is one of those wanted; if so it is taken."""
-        if self.next() in wanted:
-            self.at += 1
-            return True
-        return False
-
-    def sign(self):
-        """-1 for a minus; 1 for a plus, or for no sign."""
-        if self.take("-"):
-            return -1
-        self.take("+")
-        return 1
-
-    def number(self, field):
-        """The next number, with its sign; it has to fit its field."""
-        sign = self.sign()
-        if not is_number(self.next()):
-            raise Fault(f"the number for {field.what} is missing before {self.shown()}")
-        return field.hold(sign * value_of(self.pop()))
-
-    def name(self):
-        """The words of a name; empty where there is none."""
-        words = []
-        while is_word(self.next()) and self.next() not in WORDS:
-            words.append(self.pop())
-        return " ".join(words)
-
-    def end(self):
-        """Nothing may follow."""
-        word = self.next()
-        if word == ".." and "," in self.tokens[self.at - 1]:
-            before = self.tokens[self.at - 1]
-            raise Fault(f"'..' is not expected here ({before} is one number: a blank stands after a comma between counts)")
-        if word:
-            raise Fault(f"{self.shown()} is not expected here{BETWEEN if word in ('count', 'tie') else ''}", word, WORDS)
 
 
 # ---- counts
@@ -197,12 +70,7 @@ def names_of(statement):
 def counts_of(statement, line):
     """[NAME {, NAME}] LOW..HIGH [weight NUMBER] [times NUMBER]"""
     names = names_of(statement)
-    low = statement.number(LOW)
-    if not statement.take(".."):
-        next_is_name = is_number(statement.next()) or is_word(statement.next())
-        hint = " (each word of a name begins with a letter)" if next_is_name else ""
-        raise Fault(f"'..' is missing between low and high, before {statement.shown()}{hint}")
-    high = statement.number(HIGH)
+    low, high = statement.bounds(LOW, HIGH)
     given = {}
     while statement.next() in ("weight", "times") and statement.next() not in given:
         word = statement.pop()
@@ -272,20 +140,20 @@ def row_of(terms):
 # ---- the whole text
 
 
-class Reader:
-    """Reads all statements, and keeps the faults and the warnings by their lines."""
+class JobReader(Reader):
+    """Reads the counts and the ties of a job's text."""
 
     def __init__(self):
+        super().__init__()
         self.counts, self.read_ties, self.ties = [], [], []
         self.numbers = {}  # of the names
         self.spoiled = set()  # names on faulty lines: that a tie uses one is no fault of its own
         self.called = {}  # all these names
-        self.faults, self.warnings = {}, {}  # by line and words; each is told once
 
     def read(self, text):
-        for line, content in enumerate(text.split("\n"), 1):
+        for line, content, statements in lines_of(text):
             before = len(self.faults)
-            for statement in content.split("#", 1)[0].split(";"):
+            for statement in statements:
                 self.attempt(line, self.statement, statement)
             if len(self.faults) > before:
                 names = {" ".join(name.split()) for found in COUNTED.findall(content) for name in found.split(",")}
@@ -297,17 +165,9 @@ class Reader:
             self.warn()
         return Job(tuple(self.counts), tuple(self.ties))
 
-    def attempt(self, line, act, *words):
-        try:
-            return act(line, *words)
-        except Fault as fault:
-            self.faults.setdefault((line, fault.words), fault)
-
     def statement(self, line, text):
-        statement = Statement(tokens_of(text))
-        word = statement.next()
-        if word and not statement.take("count", "tie"):
-            raise Fault(f"unknown word {statement.shown()}: a line begins with count or tie", word, ("count", "tie"))
+        statement = Statement(text, GRAMMAR)
+        word = statement.begin()
         counts, ties, goes_on = [], [], bool(word)
         while goes_on:
             if statement.next() in ("count", "tie"):
@@ -364,7 +224,7 @@ class Reader:
         self.ties += [Tie(*row, sums.number, line)] * times
 
     def warn(self):
-        """What the planner would refuse; a low above its high, and a tie that says nothing of any count."""
+        """What the planner would refuse; and a tie that says nothing of any count."""
         job = Job(tuple(self.counts), tuple(self.ties))
         for what, rows, most in (("counts", self.counts, MOST_COUNTS), ("ties", self.ties, MOST_TIES)):
             if len(rows) > most:
@@ -372,27 +232,25 @@ class Reader:
         for count in self.counts:
             for breach in count_breaches(count):
                 self.warning(count.line, breach.words, breach.reason)
-            if count.low > count.high:
-                self.warning(count.line, f"the low, {count.low:,}, is above the high, {count.high:,}, which leaves no fit")
         for tie in dict.fromkeys(self.ties):
             for breach in tie_breaches(job, tie):
                 self.warning(tie.line, breach.words, breach.reason)
             if not tie.terms():
                 self.warning(tie.line, f"the tie says 0 = {tie.c:,}, which {'leaves no fit' if tie.c else 'always holds'}")
 
-    def warning(self, line, words, reason=0):
-        self.warnings[line, words + (f"; the planner refuses this, reason {reason}" if reason else "")] = True
+
+def turned(job):
+    """A warning for each count of a text whose own bounds are in force, the low above the high; with its line."""
+    return {(count.line, words) for count in job.counts if count.line and not count.sheet for words in turned_bounds(count)}
 
 
 def is_job(text):
     """Whether some line begins like one of a job."""
-    return any(line.split()[:1] in (["count"], ["tie"]) for line in text.splitlines())
+    return begins(text, GRAMMAR.begins)
 
 
 def read(text):
-    """The job, the faults and the warnings, each with its line and in the order of the lines."""
-    reader = Reader()
-    job = reader.read(unicodedata.normalize("NFC", text))
-    faults = sorted(reader.faults.items(), key=lambda item: item[0][0])
-    told = [(line, fault.told(place < MOST_HINTS)) for place, ((line, _), fault) in enumerate(faults)]
-    return job, told, sorted(reader.warnings)
+    """The job, the faults and the warnings, but for those of turned, each with its line and in the order of the lines."""
+    reader = JobReader()
+    job = reader.read(text)
+    return job, *reader.told()

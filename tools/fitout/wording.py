@@ -68,3 +68,9 @@ def tie_places(job, ks, most=6):
 def count_place(job, i):
     line = job.counts[i].line
     return f"line {line}" if line else f"count {i}"
+
+
+def bounds_place(job, i):
+    """Where the bounds of a count stand: with the count, or on a sheet."""
+    sheet = job.counts[i].sheet
+    return f"sheet {sheet.number}" if sheet else count_place(job, i)
