@@ -188,7 +188,7 @@ static inline size_t fit_amendments_length(size_t many) {
 }
 
 /* All that a planning call is given. Set the fields by name, { .job = .. }, or zero the struct
- * first: in a later version a new area is a new field at the end, and a field that is zero says that
+ * first: in a later version what is new is a field at the end, and a field that is zero says that
  * there is none. So a host that does not know of it compiles as before, and gets the same. */
 struct fit_call {
     const uint8_t *job; /* NULL: a job of length 0, whatever job_length says */

@@ -4,7 +4,6 @@ use mathlib.Core.Path.{_≡_, refl, sym, _∙_, ap, ap₂, subst}
 use mathlib.Core.Logic.{_≢_}
 use mathlib.Core.Bool.{Bool, true, false}
 use mathlib.Core.Option.{Option, none, some}
-use mathlib.Core.List.{List}
 use Prim.Native.Nat.{ℕ, _*_, _<_}
 use lib.Dec.{eqb, ltb}
 use lib.ListN.{length}
@@ -22,7 +21,7 @@ use Rattle.runs.specs.declared.Run.{Run}
 use Rattle.runs.specs.Run.{bound}
 use Rattle.families.specs.FamilyRun.{FamilyRun}
 use Rattle.jobs.specs.Decide.{equal?, firstOf}
-use Rattle.jobs.specs.Call.{Areas, Call, onLent}
+use Rattle.jobs.specs.Call.{Call, onLent}
 use Rattle.jobs.specs.Job.{Job, variable}
 use Rattle.jobs.specs.Amendments.{jobIn}
 use Rattle.jobs.specs.Solution.{number, objective, best}

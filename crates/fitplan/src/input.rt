@@ -12,7 +12,7 @@ pub(crate) fn asks_for_map() -> bool {
 
 /// One byte more than the longest lawful job, 24 + 12·256 + 20·1,024 bytes. Of longer input so much is enough: reasons 1 to 3 look
 /// only at the header, and as no lawful job is of that length, reason 4 holds of the part as of the whole (`longer-same` in
-/// `crates/jobs/proofs/LongInput.antt`: verdict and sheet are the same).
+/// `crates/jobs/proofs/LongInput.antt`: verdict and areas are the same).
 pub type Buffer = [u8; 23577];
 
 /// Reads until the input ends, a read fails or the buffer is full, and gives how many bytes there are.
@@ -22,7 +22,8 @@ pub(crate) fn read(b: &mut Buffer) -> usize
     io::read_full(STDIN_FILENO, b)
 }
 
-/// One byte more than the most amendments, 20·512 bytes: of a longer file so much is enough, as it is refused for its length.
+/// One byte more than the most amendments, 20·512 bytes. Of a longer file so much is enough: where the job is not refused, it is, for its
+/// length (`longer-same`).
 pub type Amendments = [u8; 10241];
 
 /// The file that the second word names, opened for reading: -1 where there is no such word, and so no amendments; -2 where it cannot be
@@ -41,7 +42,7 @@ pub(crate) fn open_amendments() -> i32 {
     file
 }
 
-/// The same of a file that is open; of -1 there is nothing to read.
+/// Reads an open file as `read` does the input; of -1 there is nothing to read.
 pub(crate) fn read_amendments(file: i32, b: &mut Amendments) -> usize
     ensures { λ r. ⌜ Counts r (now (b .exit)) ⌝ }
 {

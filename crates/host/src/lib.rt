@@ -29,7 +29,7 @@ pub struct FitOutcome {
     pub worth: i64,
 }
 
-/// What the job check gives: reason 0 where the job is accepted.
+/// What the checks give: reason 0 where nothing is refused.
 #[repr(C)]
 pub struct FitChecked {
     pub reason: u32,

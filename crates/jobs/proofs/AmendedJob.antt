@@ -1,26 +1,25 @@
 -- The job as amended: whose bounds each variable has, that it is lawful where no check turns the call away, and that without amendments
 -- it is the job itself.
 use mathlib.Core.Path.{_≡_, refl, sym, _∙_, ap, subst}
-use mathlib.Core.Logic.{_⊎_, inl, inr, ⊎-elim}
+use mathlib.Core.Logic.{_⊎_, ⊎-elim}
 use mathlib.Core.Option.{none}
 use mathlib.Core.List.{List, [], _∷_}
-use Prim.Native.Nat.{ℕ, _≤_, _<_}
+use Prim.Native.Nat.{ℕ, _<_}
 use native.Mathlib.Omega.{arith}
 use lib.ListN.{length, getD}
 use Rattle.lists.specs.Members.{_∈_, here}
 use Rattle.lists.specs.Table.{table, Tabulates}
 use Rattle.lists.proofs.Places.{same-places}
-use Rattle.lists.proofs.Table.{length-table, table-at, same-table}
+use Rattle.lists.proofs.Table.{table-at}
 use Rattle.reasons.specs.declared.Reason.the-variants.{AmendmentReference, AmendmentTwice, AmendmentRange}
 use Rattle.jobs.specs.Call.{Call}
-use Rattle.jobs.specs.Job.{Variable, Job, jobOf, variableCount, variable, noVariable}
-use Rattle.jobs.specs.Bounds.{Bounds, noBounds, withBounds, Bounded, BoundedBy}
-use Rattle.jobs.specs.Amendments.{Amendment, amendmentCount, amendmentsOf, amendment, governing, sheetBounds, replaced, boundsInForce, amended, jobIn}
+use Rattle.jobs.specs.Job.{Job, jobOf, variableCount, variable, noVariable}
+use Rattle.jobs.specs.Bounds.{Bounds, noBounds, withBounds, Bounded}
+use Rattle.jobs.specs.Amendments.{Amendment, amendmentCount, amendmentsOf, amendment, governing, amendmentBounds, replaced, boundsInForce, amended, jobIn}
 use Rattle.jobs.specs.ReasonTable.{Twice}
 use Rattle.jobs.specs.Lawful.{LawfulJob, Lawful}
 use Rattle.jobs.specs.Faults.{bounded?, firstBroken}
 use Rattle.jobs.specs.AmendmentPasses.{Referenced, Overlaid}
-use Rattle.jobs.proofs.JobOf.{variables-of}
 use Rattle.jobs.proofs.Faults.{sound-iff}
 use Rattle.jobs.proofs.Lawful.{decided, lawful}
 use Rattle.jobs.proofs.WithBounds.{same-length, same-equations, variable-with, lawful-with, with-same}
@@ -59,8 +58,8 @@ module _ (s a : List ℕ) where
   amended-with bounds t = with-same j bounds inForce (λ i h. t .at i h ∙ sym (in-force-at i h)) ∙ sym amended-is
 
   -- a variable for which no sheet is in force is as it was
-  pub without-sheet : (i : ℕ) → i < length (jobOf s .variables) → ((t : ℕ) → t < amendmentCount a → ¬ Governs (amendmentsOf a) i t) → variable (amended s a) i ≡ variable (jobOf s) i
-  without-sheet i h f =
+  pub without-amendment : (i : ℕ) → i < length (jobOf s .variables) → ((t : ℕ) → t < amendmentCount a → ¬ Governs (amendmentsOf a) i t) → variable (amended s a) i ≡ variable (jobOf s) i
+  without-amendment i h f =
       variable-amended i h
       ∙ ap (λ o. record { low = replaced xs (variable j i) o .low; high = replaced xs (variable j i) o .high; weight = variable j i .weight })
       (governing-none xs i (λ t l. f t (omega (arith, l, amendments-of a))))
@@ -85,8 +84,8 @@ module _ (c : Call) (e : firstBroken c ≡ none) where
   pub once : (t : ℕ) → t < length (amendmentsOf (c .amendments)) → ¬ Twice (amendmentsOf (c .amendments)) t
   once t h w = sound-iff c .0 e (AmendmentTwice t) (below t h, w)
 
-  bounded : (t : ℕ) → t < length sheets → Bounded (sheetBounds (amendment sheets t))
-  bounded t h = decided (bounded? (sheetBounds (amendment sheets t))) (λ z. sound-iff c .0 e (AmendmentRange t) (below t h, z))
+  bounded : (t : ℕ) → t < length sheets → Bounded (amendmentBounds (amendment sheets t))
+  bounded t h = decided (bounded? (amendmentBounds (amendment sheets t))) (λ z. sound-iff c .0 e (AmendmentRange t) (below t h, z))
 
   -- of each count at most one sheet is in force
   pub at-most-one : (i t u : ℕ) → t < amendmentCount (c .amendments) → u < amendmentCount (c .amendments) →
@@ -94,9 +93,9 @@ module _ (c : Call) (e : firstBroken c ≡ none) where
   at-most-one i t u h l = one-in-force sheets once i t u (omega (arith, h, amendments-of a)) (omega (arith, l, amendments-of a))
 
   -- and where there is one its bounds are those of the count, with the weight of its row
-  pub with-sheet : (i t : ℕ) → i < length (jobOf (c .job) .variables) → t < amendmentCount (c .amendments) → Governs (amendmentsOf (c .amendments)) i t →
+  pub with-amendment : (i t : ℕ) → i < length (jobOf (c .job) .variables) → t < amendmentCount (c .amendments) → Governs (amendmentsOf (c .amendments)) i t →
       variable (jobIn c) i ≡ record { low = amendment (amendmentsOf (c .amendments)) t .low; high = amendment (amendmentsOf (c .amendments)) t .high; weight = variable (jobOf (c .job)) i .weight }
-  with-sheet i t h l g =
+  with-amendment i t h l g =
       variable-amended s a i h
       ∙ ap (λ o. record { low = replaced sheets (variable (jobOf s) i) o .low; high = replaced sheets (variable (jobOf s) i) o .high; weight = variable (jobOf s) i .weight })
       (governing-is sheets once i t (omega (arith, l, amendments-of a)) g .1)
@@ -123,7 +122,7 @@ module _ (c : Call) (e : firstBroken c ≡ none) where
       last : (i t : ℕ) → LastFor sheets i (length sheets) t → getD after i noBounds ≡ boundsInForce (jobOf s) sheets i
       last i t l =
           let alone : (u : ℕ) → t < u → u < length sheets → ¬ (amendment sheets u .variable ≡ amendment sheets t .variable) = λ u h k q. l .later u h k (q ∙ l .own) in
-          subst (λ i. getD after i noBounds ≡ sheetBounds (amendment sheets t)) (l .own) (o .last t (l .below) alone)
+          subst (λ i. getD after i noBounds ≡ amendmentBounds (amendment sheets t)) (l .own) (o .last t (l .below) alone)
           ∙ sym (ap (replaced sheets (variable (jobOf s) i)) (governing-is sheets once i t (l .below) (l .own, last-in-force referenced t (l .below) alone) .1))
 
       own : (i : ℕ) → i < length (jobOf s .variables) → ((t : ℕ) → t < length sheets → ¬ (amendment sheets t .variable ≡ i)) → getD after i noBounds ≡ boundsInForce (jobOf s) sheets i
@@ -138,7 +137,7 @@ amended-by-none s = amended-is s [] ∙ (λ t. record { variables = same t; equa
     at : (i : ℕ) → i < length (withBounds (jobOf s) (inForce s []) .variables) → variable (withBounds (jobOf s) (inForce s [])) i ≡ variable (jobOf s) i
     at i h =
         ap (λ j. variable j i) (sym (amended-is s []))
-        ∙ without-sheet s [] i (omega (arith, h, same-length (jobOf s) (inForce s []))) (λ t l. absurd (omega (arith, l)))
+        ∙ without-amendment s [] i (omega (arith, h, same-length (jobOf s) (inForce s []))) (λ t l. absurd (omega (arith, l)))
 
     same : withBounds (jobOf s) (inForce s []) .variables ≡ jobOf s .variables
     same = same-places noVariable (withBounds (jobOf s) (inForce s []) .variables) (jobOf s .variables) (same-length (jobOf s) (inForce s [])) at

@@ -1,10 +1,10 @@
 -- Amendment sheets that keep their rules: their numbers rise, what supersedes a sheet comes after it and is for the same variable, and
 -- so the last sheet for a variable is in force, and no other is.
 use mathlib.Core.Path.{_≡_, refl, sym, _∙_, ap, subst}
-use mathlib.Core.Logic.{_↔_, _⊎_, inl, inr, ⊎-elim, _≢_}
+use mathlib.Core.Logic.{_↔_, _⊎_, inl, inr, _≢_}
 use mathlib.Core.Bool.{Bool, true, not, _&&_, false≢true, and-eq-true-iff}
 use mathlib.Core.List.{List, [], _∷_, List·Memᴰ·not-nil}
-use Prim.Native.Nat.{ℕ, zero, suc, _+_, _≤_, _<_}
+use Prim.Native.Nat.{ℕ, zero, suc, _≤_, _<_}
 use native.Mathlib.Omega.{arith}
 use native.Mathlib.Decide.{ℕ-discrete, decLt}
 use lib.Dec.{eqb}
@@ -16,8 +16,8 @@ use Rattle.lists.specs.Table.{upTo}
 use Rattle.lists.proofs.Keep.{in-keep, every-at}
 use Rattle.lists.proofs.Table.{length-table, table-at, in-upTo}
 use Rattle.jobs.specs.Amendments.{Amendment, amendmentCount, amendmentAt, amendmentsOf, noAmendment, amendment, isInForce, governing}
-use Rattle.jobs.specs.ReasonTable.{serialBefore, Earlier, Misreferenced, Twice}
-use Rattle.jobs.specs.Faults.{earlier?}
+use Rattle.jobs.specs.ReasonTable.{serialBefore, SupersedesEarlier, Twice}
+use Rattle.jobs.specs.Faults.{supersedesEarlier?}
 use Rattle.jobs.specs.AmendmentPasses.{Referenced, PlaceOf, Superseded}
 
 -- ---- the rows that bytes say
@@ -55,10 +55,10 @@ module _ {n : ℕ} {xs : List Amendment} {k : ℕ} (r : Referenced n xs k) where
   pub variable-below : (t : ℕ) → t < k → amendment xs t .variable < n
   variable-below t h = let l : ¬ (n ≤ amendment xs t .variable) = λ l. r .at t h (inr (inl l)) in omega (arith, l)
 
-  pub has-earlier : (t : ℕ) → t < k → amendment xs t .supersedes ≢ 0 → Earlier xs t
-  has-earlier t h z = go (earlier? xs t)
+  pub has-earlier : (t : ℕ) → t < k → amendment xs t .supersedes ≢ 0 → SupersedesEarlier xs t
+  has-earlier t h z = go (supersedesEarlier? xs t)
     where
-      go : Dec (Earlier xs t) → Earlier xs t
+      go : Dec (SupersedesEarlier xs t) → SupersedesEarlier xs t
       go (yes e) = e
       go (no e) = absurd (r .at t h (inr (inr (z, e))))
 

@@ -30,8 +30,8 @@ pub mod Lawful
 pub mod WithBounds
 -- amendment sheets that keep their rules: the last for a variable is in force (`last-in-force`), and no other (`one-in-force`)
 pub mod AmendmentsInForce
--- the job as amended: at most one sheet in force for each variable (`at-most-one`), whose bounds it has (`with-sheet`), or its row's
--- (`without-sheet`); it is lawful (`lawful-amended`), and without amendments the job itself (`amended-by-none`)
+-- the job as amended: at most one sheet in force for each variable (`at-most-one`), whose bounds it has (`with-amendment`), or its row's
+-- (`without-amendment`); it is lawful (`lawful-amended`), and without amendments the job itself (`amended-by-none`)
 pub mod AmendedJob
 -- the tie-break is a strict total order: `earlier-asym`, `earlier-trans`, `earlier-compared`; solutions in its order (`earliest-first`)
 pub mod TieBreak

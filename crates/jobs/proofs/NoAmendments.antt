@@ -10,6 +10,8 @@ use Rattle.jobs.specs.Amendments.{amended}
 use Rattle.jobs.specs.Solution.{objective, best}
 use Rattle.jobs.specs.Findings.{findings}
 use Rattle.jobs.specs.Structure.{structure}
+use Rattle.jobs.specs.SheetOffsets.{sheetLength}
+use Rattle.jobs.specs.MapOffsets.{mapLength}
 use Rattle.jobs.specs.ReasonTable.{headerChecks, rowChecks, amendmentChecks, areaChecks, checks}
 use Rattle.jobs.specs.Decide.{firstOf}
 use Rattle.jobs.specs.Faults.{breaks?, firstBroken}
@@ -31,6 +33,10 @@ module _ (s : List ℕ) (lent : Areas) where
 
   abbrev pub areasBefore : Areas
   areasBefore = areasBy (findings (jobOf s)) (structure (jobOf s)) verdictBefore lent
+
+  -- the lengths that its last checks ask for are those of the job as it is written
+  pub lengths-before : (sheetLength (amended s []) ≡ sheetLength (jobOf s)) × (mapLength (amended s []) ≡ mapLength (jobOf s))
+  lengths-before = (ap sheetLength (amended-by-none s), ap mapLength (amended-by-none s))
 
   pub fault-before : firstBroken (callOf s [] lent) ≡ faultBefore
   unfolding firstBroken checks

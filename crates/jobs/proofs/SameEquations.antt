@@ -1,13 +1,12 @@
 -- Jobs with the same equations and as many variables hang together alike, whatever their bounds and weights.
-use mathlib.Core.Path.{_≡_, refl, sym, _∙_, ap, ap₂}
-use mathlib.Core.List.{List}
-use Prim.Native.Nat.{ℕ, zero, suc, _<_}
+use mathlib.Core.Path.{_≡_, refl, _∙_, ap, ap₂}
+use Prim.Native.Nat.{ℕ, zero, suc}
 use lib.Dec.{eqb, ltb}
 use lib.ListN.{length, getD}
 use Rattle.lists.specs.Keep.{keep}
 use Rattle.lists.specs.Table.{upTo}
 use Rattle.lists.proofs.Keep.{keep-same}
-use Rattle.jobs.specs.Job.{Equation, Job, noEquation, equation}
+use Rattle.jobs.specs.Job.{Job, noEquation, equation}
 use Rattle.jobs.specs.NormalForm.{home, isBinary, normal, normalRow}
 use Rattle.jobs.specs.Component.{merged, lowestBy, lowest, leads, componentCount, component}
 use Rattle.jobs.specs.Structure.{names, degreeBy, kindBy, kind, structure}

@@ -6,7 +6,7 @@ use mathlib.Core.List.{List}
 use Prim.Native.Nat.{ℕ, _≤_, _<_}
 use lib.ListN.{length, getD}
 use Rattle.jobs.specs.Bounds.{Bounds, noBounds}
-use Rattle.jobs.specs.Amendments.{Amendment, amendment, sheetBounds}
+use Rattle.jobs.specs.Amendments.{Amendment, amendment, amendmentBounds}
 use Rattle.jobs.specs.ReasonTable.{Misreferenced}
 
 -- the first k sheets keep reason 12's rule, for n variables: so their numbers rise
@@ -29,5 +29,5 @@ pub record Marks (xs : List Amendment) (marked : List Bool) : Type 0 where
 
 -- bounds as they are once each sheet has put its own over those of its variable, row by row: those of the last sheet for a variable stay
 pub record Overlaid (xs : List Amendment) (before after : List Bounds) : Type 0 where
-  pub last : (t : ℕ) → t < length xs → ((u : ℕ) → t < u → u < length xs → ¬ (amendment xs u .variable ≡ amendment xs t .variable)) → getD after (amendment xs t .variable) noBounds ≡ sheetBounds (amendment xs t)
+  pub last : (t : ℕ) → t < length xs → ((u : ℕ) → t < u → u < length xs → ¬ (amendment xs u .variable ≡ amendment xs t .variable)) → getD after (amendment xs t .variable) noBounds ≡ amendmentBounds (amendment xs t)
   pub others : (i : ℕ) → ((t : ℕ) → t < length xs → ¬ (amendment xs t .variable ≡ i)) → getD after i noBounds ≡ getD before i noBounds

@@ -59,12 +59,12 @@ governing xs i = keep (λ t. eqb (amendment xs t .variable) i && isInForce xs t)
 -- ---- the job as amended
 
 -- "its bounds then replace those of the count's row"
-abbrev pub sheetBounds : Amendment → Bounds
-sheetBounds a = record { low = a .low; high = a .high }
+abbrev pub amendmentBounds : Amendment → Bounds
+amendmentBounds a = record { low = a .low; high = a .high }
 
 abbrev pub replaced : List Amendment → Variable → List ℕ → Bounds
 replaced xs v [] = record { low = v .low; high = v .high }
-replaced xs v (t ∷ ts) = sheetBounds (amendment xs t)
+replaced xs v (t ∷ ts) = amendmentBounds (amendment xs t)
 
 abbrev pub boundsInForce : Job → List Amendment → ℕ → Bounds
 boundsInForce j xs i = replaced xs (variable j i) (governing xs i)
@@ -74,6 +74,6 @@ unfoldable pub amended : List ℕ → List ℕ → Job
 unfolding jobOf amendmentsOf governing withBounds table
 amended s a = let j = jobOf s in withBounds j (table (boundsInForce j (amendmentsOf a)) (length (j .variables)))
 
--- the job that a call means: every verdict, area and demand is over it
+-- "A plan is right for the job so amended": every verdict, area and demand is over it
 abbrev pub jobIn : Call → Job
 jobIn c = amended (c .job) (c .amendments)

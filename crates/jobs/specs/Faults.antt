@@ -17,12 +17,12 @@ use Rattle.bytes.specs.LittleEndian.{u32}
 use Rattle.jobs.specs.Decide.{tested, below?, atMost?, equal?, within?, by, both, either, not?, list?, some?, firstOf}
 use Rattle.jobs.specs.Job.{Variable, Equation, jobOf, variableCount, equationCount, equationRowAt, variable, equation}
 use Rattle.jobs.specs.Bounds.{Bounds, Bounded}
-use Rattle.jobs.specs.Amendments.{Amendment, amendmentCount, amendmentsOf, amendment, zeroAt, isInForce, sheetBounds, amended, jobIn}
+use Rattle.jobs.specs.Amendments.{Amendment, amendmentCount, amendmentsOf, amendment, zeroAt, isInForce, amendmentBounds, amended, jobIn}
 use Rattle.jobs.specs.SheetOffsets.{groupRowsAt}
 use Rattle.jobs.specs.MapOffsets.{mapLength}
 use Rattle.jobs.specs.Call.{Call, lendingNothing}
 use Rattle.jobs.specs.Component.{leads, componentCount}
-use Rattle.jobs.specs.ReasonTable.{mark, Header, InRange, Coefficients, Misnamed, MisSized, serialBefore, Earlier, Misreferenced, Twice, Shorter, Broken, checks, Reported, Faultless}
+use Rattle.jobs.specs.ReasonTable.{mark, Header, InRange, Coefficients, Misnamed, MisSized, serialBefore, SupersedesEarlier, Misreferenced, Twice, Shorter, Broken, checks, Reported, Faultless}
 
 -- ---- each condition of the table can be decided
 abbrev pub header? : (s : List ℕ) → Dec (Header s)
@@ -63,13 +63,13 @@ bounded? b = by (boundedParts b) (both (within? bound (b .low)) (within? bound (
 abbrev pub misSized? : (a : List ℕ) → Dec (MisSized a)
 misSized? a = either (not? (equal? (length a) (20 * amendmentCount a))) (below? 512 (amendmentCount a))
 
-abbrev pub earlier? : (xs : List Amendment) (t : ℕ) → Dec (Earlier xs t)
-earlier? xs t = some? (λ u. both (equal? (amendment xs u .serial) (amendment xs t .supersedes)) (equal? (amendment xs u .variable) (amendment xs t .variable))) t
+abbrev pub supersedesEarlier? : (xs : List Amendment) (t : ℕ) → Dec (SupersedesEarlier xs t)
+supersedesEarlier? xs t = some? (λ u. both (equal? (amendment xs u .serial) (amendment xs t .supersedes)) (equal? (amendment xs u .variable) (amendment xs t .variable))) t
 
 abbrev pub misreferenced? : (n : ℕ) (xs : List Amendment) (t : ℕ) → Dec (Misreferenced n xs t)
 misreferenced? n xs t =
     either (atMost? (amendment xs t .serial) (serialBefore xs t))
-    (either (atMost? n (amendment xs t .variable)) (both (not? (equal? (amendment xs t .supersedes) 0)) (not? (earlier? xs t))))
+    (either (atMost? n (amendment xs t .variable)) (both (not? (equal? (amendment xs t .supersedes) 0)) (not? (supersedesEarlier? xs t))))
 
 abbrev pub inForce? : (xs : List Amendment) (t : ℕ) → Dec (isInForce xs t ≡ true)
 inForce? xs t = tested (isInForce xs t) (λ h. h, λ h. h)
@@ -96,7 +96,7 @@ broken? g c AmendmentsLength = misSized? (c .amendments)
 broken? g c (AmendmentZero t) = both (below? t (amendmentCount (c .amendments))) (not? (equal? (zeroAt (c .amendments) t) 0))
 broken? g c (AmendmentReference t) = both (below? t (amendmentCount (c .amendments))) (misreferenced? (variableCount (c .job)) (amendmentsOf (c .amendments)) t)
 broken? g c (AmendmentTwice t) = both (below? t (amendmentCount (c .amendments))) (twice? (amendmentsOf (c .amendments)) t)
-broken? g c (AmendmentRange t) = both (below? t (amendmentCount (c .amendments))) (not? (bounded? (sheetBounds (amendment (amendmentsOf (c .amendments)) t))))
+broken? g c (AmendmentRange t) = both (below? t (amendmentCount (c .amendments))) (not? (bounded? (amendmentBounds (amendment (amendmentsOf (c .amendments)) t))))
 
 -- with the number of groups that the job has (proofs/Numbering.antt: no other has a numbering, `groups-are`)
 abbrev pub breaks? : (c : Call) (r : Reason) → Dec (Broken (componentCount (jobIn c)) c r)

@@ -19,7 +19,7 @@ use Rattle.jobs.specs.MapOffsets.{mapLength}
 use Rattle.jobs.specs.Component.{Numbered}
 use Rattle.jobs.specs.Call.{Call}
 use Rattle.jobs.specs.Bounds.{Bounded}
-use Rattle.jobs.specs.Amendments.{Amendment, amendmentCount, amendmentsOf, amendment, zeroAt, isInForce, sheetBounds, jobIn}
+use Rattle.jobs.specs.Amendments.{Amendment, amendmentCount, amendmentsOf, amendment, zeroAt, isInForce, amendmentBounds, jobIn}
 use Rattle.jobs.specs.Job.{Variable, Equation, jobOf, variableCount, equationCount, equationRowAt, variable, equation}
 
 -- ---- the conditions, line by line
@@ -64,22 +64,25 @@ serialBefore xs zero = 0
 serialBefore xs (suc t) = amendment xs t .serial
 
 -- what it supersedes is "an earlier one for the same count"
-abbrev pub Earlier : List Amendment → ℕ → Type 0
-Earlier xs t = (u : ℕ) × ((u < t) × ((amendment xs u .serial ≡ amendment xs t .supersedes) × (amendment xs u .variable ≡ amendment xs t .variable)))
+abbrev pub SupersedesEarlier : List Amendment → ℕ → Type 0
+SupersedesEarlier xs t = (u : ℕ) × ((u < t) × ((amendment xs u .serial ≡ amendment xs t .supersedes) × (amendment xs u .variable ≡ amendment xs t .variable)))
 
 -- "numbers not rising from at least 1, a count not below n, or a superseded sheet that is not an earlier one for the same count"
 abbrev pub Misreferenced : ℕ → List Amendment → ℕ → Type 0
 Misreferenced n xs t =
     (amendment xs t .serial ≤ serialBefore xs t)
     ⊎ ((n ≤ amendment xs t .variable)
-    ⊎ ((amendment xs t .supersedes ≢ 0) × (¬ Earlier xs t)))
+    ⊎ ((amendment xs t .supersedes ≢ 0) × (¬ SupersedesEarlier xs t)))
 
--- "a sheet in force after another in force for its count"
+-- the sheet in row u is "another in force for its count"
 abbrev pub Rivals : List Amendment → ℕ → ℕ → Type 0
 Rivals xs t u = (amendment xs u .variable ≡ amendment xs t .variable) × (isInForce xs u ≡ true)
 
+-- "a sheet in force after another in force for its count"
 abbrev pub Twice : List Amendment → ℕ → Type 0
 Twice xs t = (isInForce xs t ≡ true) × ((u : ℕ) × ((u < t) × Rivals xs t u))
+
+-- ---- of an area, and the whole table
 
 -- an area is lent, and has fewer than n bytes
 abbrev pub Shorter : Option (List ℕ) → ℕ → Type 0
@@ -106,7 +109,7 @@ Broken g c (AmendmentZero t) = (t < amendmentCount (c .amendments)) × (zeroAt (
 Broken g c (AmendmentReference t) = (t < amendmentCount (c .amendments)) × Misreferenced (variableCount (c .job)) (amendmentsOf (c .amendments)) t
 Broken g c (AmendmentTwice t) = (t < amendmentCount (c .amendments)) × Twice (amendmentsOf (c .amendments)) t
 -- "bounds out of range, in force or not"
-Broken g c (AmendmentRange t) = (t < amendmentCount (c .amendments)) × (¬ Bounded (sheetBounds (amendment (amendmentsOf (c .amendments)) t)))
+Broken g c (AmendmentRange t) = (t < amendmentCount (c .amendments)) × (¬ Bounded (amendmentBounds (amendment (amendmentsOf (c .amendments)) t)))
 
 -- ---- the order of the table is that of this list: "all count rows come before equation rows, and in one row 6 comes before 7.
 -- Equation rows are taken in turn"

@@ -8,8 +8,8 @@ ghost use Rattle.reasons.specs.declared.Reason.the-variants.{AmendmentZero, Ame
 ghost use Rattle.jobs.specs.Call.{lendingNothing};
 ghost use Rattle.jobs.specs.Job.{RowsInside};
 ghost use Rattle.jobs.specs.Bounds.{Bounded};
-ghost use Rattle.jobs.specs.Amendments.{amendmentCount, amendmentsOf, amendment, zeroAt, sheetBounds};
-ghost use Rattle.jobs.specs.ReasonTable.{serialBefore, Earlier, Misreferenced, Twice, amendmentChecks};
+ghost use Rattle.jobs.specs.Amendments.{amendmentCount, amendmentsOf, amendment, zeroAt, amendmentBounds};
+ghost use Rattle.jobs.specs.ReasonTable.{serialBefore, SupersedesEarlier, Misreferenced, Twice, amendmentChecks};
 ghost use Rattle.jobs.specs.Decide.{firstOf};
 ghost use Rattle.jobs.specs.Faults.{breaks?, faultOf};
 ghost use Rattle.jobs.specs.FirstRow.{FirstRow};
@@ -38,7 +38,7 @@ impl Amendment {
 
     // Do its bounds lie in their range?
     fn in_range(self) -> bool
-        ensures { λ r. ⌜ (r ≡ true) ↔ Bounded (sheetBounds self) ⌝ }
+        ensures { λ r. ⌜ (r ≡ true) ↔ Bounded (amendmentBounds self) ⌝ }
     {
         if ints::is_within(1000000000, self.low) {
             return ints::is_within(1000000000, self.high);
@@ -143,7 +143,7 @@ fn is_earlier(amendments: &[u8], n: usize, t: usize, a: Amendment) -> bool
     requires { ⌜ t < amendmentCount (now amendments) ⌝ }
     requires { ⌜ a ≡ amendment (amendmentsOf (now amendments)) t ⌝ }
     requires { ⌜ Referenced n (amendmentsOf (now amendments)) t ⌝ }
-    ensures { λ r. ⌜ (r ≡ true) ↔ Earlier (amendmentsOf (now (amendments .entry))) t ⌝ }
+    ensures { λ r. ⌜ (r ≡ true) ↔ SupersedesEarlier (amendmentsOf (now (amendments .entry))) t ⌝ }
 {
     let u = place(amendments, n, a.supersedes, t);
     if u == t {
@@ -225,7 +225,7 @@ fn superseded(amendments: &[u8], n: usize, k: usize) -> [bool; 512]
 fn check_ranges(amendments: &[u8], k: usize) -> Checked
     requires { ⌜ k ≡ amendmentCount (now amendments) ⌝ }
     requires { ⌜ k ≤ 512 ⌝ }
-    ensures { λ r. ⌜ FirstRow AmendmentRange (λ t. Bounded (sheetBounds (amendment (amendmentsOf (now (amendments .entry))) t)) → ⊥) k r ⌝ }
+    ensures { λ r. ⌜ FirstRow AmendmentRange (λ t. Bounded (amendmentBounds (amendment (amendmentsOf (now (amendments .entry))) t)) → ⊥) k r ⌝ }
 {
     let mut t: usize = 0;
     loop {

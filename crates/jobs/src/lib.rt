@@ -1,4 +1,4 @@
-//! Jobs: their bytes, what they mean, what is demanded of a plan, and the job check.
+//! Jobs and their amendments: their bytes, what they mean, what is demanded of a plan, and the job check.
 //!
 //! Read `specs/Lib.antt` for the definitions, then this file, then the modules from the bottom up.
 

@@ -52,7 +52,7 @@ pub enum Outcome {
     Planned(i64),
     /// No numbers fit; this is the lowest variable of the first component that has none.
     NoFit(u16),
-    /// The job is faulty or an area too short; nothing is written.
+    /// The job or its amendments are faulty, or an area is too short; nothing is written.
     Refused(Reason),
 }
 

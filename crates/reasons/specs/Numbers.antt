@@ -33,6 +33,7 @@ rowOf (EquationRange row) = row
 rowOf ShortArea = 0
 rowOf WrongArgument = 0
 rowOf ShortMap = 0
+-- "The row is the first such amendment, 0 for a wrong length or too many sheets"
 rowOf AmendmentsLength = 0
 rowOf (AmendmentZero row) = row
 rowOf (AmendmentReference row) = row

@@ -5,15 +5,17 @@ use std::mem;
 
 use super::{faults, in_force, write, Amendment, MOST_AMENDMENTS};
 use crate::job::{self, Count, Job, MOST_NUMBER};
+use crate::made::{self, Size};
 use crate::random::Random;
 
-/// Half of the jobs come with amendments, of which so many in a hundred have faults; the others with no bytes of them, or None. The bounds
-/// of a lawful job may change.
+/// For half of the jobs amendments are drawn, of which so many in a hundred have faults; the others come with no bytes of them, or None. The
+/// bounds of a lawful job may change.
 pub fn for_job(random: &mut Random, bytes: &mut Vec<u8>, faulty: i64) -> Option<Vec<u8>> {
     if random.chance(50) {
         return random.chance(50).then(Vec::new);
     }
-    let mut job = job::read_rows(bytes).unwrap_or_default();
+    // where there are no rows to amend, those of another job
+    let mut job = job::read_rows(bytes).unwrap_or_else(|_| made::hidden(random, Size::Small));
     let many = how_many(random);
     let mut all = lawful(random, &job, many);
     if job::read(bytes).is_ok() && random.chance(40) {

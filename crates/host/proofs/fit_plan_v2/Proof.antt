@@ -8,7 +8,7 @@ use Rattle.jobs.specs.Verdict.{Verdict}
 use Rattle.jobs.specs.Demands.{UntouchedUnless, Plans}
 use Rattle.planner.specs.declared.Lent.{Lent}
 use Rattle.planner.specs.Lending.{areasIn}
-use Rattle.host.specs.Answers.{FitOutcome, lentBy, outcomeFor, PlansFor}
+use Rattle.host.specs.Answers.{FitOutcome, outcomeFor, PlansFor}
 use Rattle.host.proofs.fit_plan_v2.Statement.{statement}
 use Rattle.host.proofs.fit_plan_v2.Tie as tie
 

@@ -1,6 +1,6 @@
 -- `check_amended` meets its contract: the job's checks stand before the amendments', and no area is lent.
 use denote.Ref.{now}
-use mathlib.Core.Path.{_≡_, sym, _∙_, ap}
+use mathlib.Core.Path.{sym, _∙_, ap}
 use mathlib.Core.List.{[]}
 use Rattle.jobs.specs.declared.Checked.the-variants.{Refused}
 use Rattle.jobs.specs.Call.{lendingNothing}

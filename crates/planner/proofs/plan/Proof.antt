@@ -1,7 +1,5 @@
 -- `plan` meets its contract: verdict and areas are those of the definitions, and these keep the demands.
 use mathlib.Core.Path.{_≡_, refl, sym, _∙_, ap, subst}
-use mathlib.Core.List.{List}
-use Prim.Native.Nat.{ℕ}
 use borrow.Author.Needs.{needs}
 use Rattle.jobs.specs.Call.{Areas, Call, lentAs, areasOf, callOf}
 use Rattle.jobs.specs.Faults.{faultOf}

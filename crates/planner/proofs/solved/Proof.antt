@@ -1,13 +1,12 @@
 -- `solved` meets its contract: where the area is long enough, the planner's verdict is no fit or planned.
 use mathlib.Core.Path.{_≡_, refl, sym, _∙_, ap, subst}
-use mathlib.Core.Option.{Option, none, some}
+use mathlib.Core.Option.{Option, none}
 use mathlib.Core.List.{List}
 use Prim.Native.Nat.{ℕ, _+_, _*_, _≤_, _<_}
 use borrow.Author.Needs.{needs}
 use native.Mathlib.Omega.{arith}
 use lib.ListN.{length}
 use Rattle.ints.specs.Within.{Within}
-use lib.IntN.{ℤ}
 use Rattle.lists.specs.Table.{Tabulates}
 use Rattle.jobs.specs.Call.{Call, lendingNothing}
 use Rattle.jobs.specs.Job.{Job, jobOf}
@@ -18,7 +17,7 @@ use Rattle.jobs.specs.Faults.{firstBroken}
 use Rattle.jobs.specs.Lawful.{LawfulJob, Lawful}
 use Rattle.jobs.specs.Findings.{findings}
 use Rattle.jobs.specs.Solution.{objective, best}
-use Rattle.jobs.specs.Verdict.{Verdict, planned, outcome, firstWithout, fitting}
+use Rattle.jobs.specs.Verdict.{planned, outcome, firstWithout, fitting}
 use Rattle.jobs.specs.AreasAfter.{sheetAfter}
 use Rattle.solver.specs.declared.State.{State}
 use Rattle.solver.specs.StateArrays.{labelIn}

@@ -2,7 +2,7 @@
 use mathlib.Core.Path.{sym, _∙_}
 use mathlib.Core.Bool.{false≢true}
 use Rattle.runs.specs.Run.{bound}
-use Rattle.jobs.specs.Amendments.{sheetBounds}
+use Rattle.jobs.specs.Amendments.{amendmentBounds}
 use borrow.Author.Needs.{needs}
 use Rattle.jobs.specs.Faults.{boundedParts}
 use Rattle.jobs.proofs.Branches.{within-iff}
@@ -14,7 +14,7 @@ returns c =
     let l = c .before .before .before in
     let a = l .before .before .args .self in
     let told = l .before .struct-told .given in
-    let parts = boundedParts (sheetBounds a) in
+    let parts = boundedParts (amendmentBounds a) in
     let low = within-iff (a .low) bound (told .1 .1 .1 .0 .1) (l .is-within .ensures) in
     let high = within-iff (a .high) bound (told .1 .1 .1 .1 .0 .1) (c .is-within2 .ensures) in
     (λ t. parts .0 (low .0 (c .before .before .if1 .taken), high .0 t), λ h. high .1 (h .high))

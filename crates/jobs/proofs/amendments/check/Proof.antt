@@ -2,8 +2,8 @@
 use denote.Ref.{now}
 use mathlib.Core.Path.{_≡_, sym, _∙_, ap, subst}
 use mathlib.Core.Logic.{inl, inr, ⊎-elim, _≢_}
-use mathlib.Core.Option.{Option, none, some}
-use mathlib.Core.List.{List, _∷_, _++_}
+use mathlib.Core.Option.{Option, some}
+use mathlib.Core.List.{List, _++_}
 use Prim.Native.Nat.{ℕ, _*_, _≤_}
 use native.Mathlib.Omega.{arith}
 use lib.ListN.{length}
@@ -15,7 +15,7 @@ use Rattle.jobs.specs.declared.Checked.the-variants.{Accepted, Refused}
 use Rattle.jobs.specs.Call.{Call, lendingNothing}
 use Rattle.jobs.specs.Job.{variableCount}
 use Rattle.jobs.specs.Bounds.{Bounded}
-use Rattle.jobs.specs.Amendments.{Amendment, amendmentCount, amendmentsOf, amendment, zeroAt, sheetBounds}
+use Rattle.jobs.specs.Amendments.{Amendment, amendmentCount, amendmentsOf, amendment, zeroAt, amendmentBounds}
 use Rattle.jobs.specs.ReasonTable.{MisSized, Misreferenced, Twice, amendmentChecks}
 use Rattle.jobs.specs.Decide.{firstOf}
 use Rattle.jobs.specs.Faults.{breaks?, faultOf}
@@ -89,10 +89,10 @@ module _ (s a : List ℕ) where
           twice-refused : {q : Reason} → t ≡ Refused q → some q ≡ first (amendmentChecks a)
           twice-refused e = sym (past-references ∙ first-stays (breaks? call) (pass AmendmentTwice) (pass AmendmentRange) (twice-fault e))
 
-          by-ranges : t ≡ Accepted → (g : Checked) → FirstRow AmendmentRange (λ t. ¬ Bounded (sheetBounds (amendment xs t))) k g → faultOf g ≡ first (amendmentChecks a)
+          by-ranges : t ≡ Accepted → (g : Checked) → FirstRow AmendmentRange (λ t. ¬ Bounded (amendmentBounds (amendment xs t))) k g → faultOf g ≡ first (amendmentChecks a)
           by-ranges no-twice g of-ranges =
               sym (past-references ∙ first-past (breaks? call) (pass AmendmentTwice) (pass AmendmentRange) (twice-fault no-twice)
-              ∙ pass-fault call AmendmentRange (λ t. ¬ Bounded (sheetBounds (amendment xs t))) k (λ t. (λ h. h, λ h. h)) g of-ranges)
+              ∙ pass-fault call AmendmentRange (λ t. ¬ Bounded (amendmentBounds (amendment xs t))) k (λ t. (λ h. h, λ h. h)) g of-ranges)
 
 -- with the number of variables read
 module _ (c : tie.After-variable-count) where

@@ -1,10 +1,9 @@
 -- `check_ranges` meets its contract: past each sheet with bounds in range.
-use denote.Ref.{now}
-use mathlib.Core.Path.{_≡_, refl, sym, subst}
+use mathlib.Core.Path.{refl, sym, subst}
 use Prim.Native.Nat.{ℕ, _-_, _≤_, _<_}
 use native.Mathlib.Omega.{arith}
 use Rattle.jobs.specs.Bounds.{Bounded}
-use Rattle.jobs.specs.Amendments.{amendmentsOf, amendment, sheetBounds}
+use Rattle.jobs.specs.Amendments.{amendmentsOf, amendment, amendmentBounds}
 use Rattle.jobs.proofs.Branches.{passed, failed}
 use Rattle.jobs.proofs.FirstRow.{none-more}
 use borrow.Author.Needs.{needs}
@@ -12,7 +11,7 @@ use Rattle.jobs.proofs.amendments.check_ranges.Statement.{statement}
 use Rattle.jobs.proofs.amendments.check_ranges.Tie as tie
 
 abbrev Inv-loop : tie.InvT-loop
-Inv-loop amendments k t₀ t = (t ≤ k) × ((u : ℕ) → u < t → ¬ ¬ Bounded (sheetBounds (amendment (amendmentsOf amendments) u)))
+Inv-loop amendments k t₀ t = (t ≤ k) × ((u : ℕ) → u < t → ¬ ¬ Bounded (amendmentBounds (amendment (amendmentsOf amendments) u)))
 
 abbrev μ-loop : tie.MeasureT-loop
 μ-loop amendments k t₀ t = k - t
@@ -27,7 +26,7 @@ loop-again : tie.Need-loop-again Inv-loop μ-loop
 loop-again c =
     let d = c .before in
     let l = d .before .before .before .loop in
-    (omega arith, none-more (l .t) (l .inv .1) (λ z. z (subst (λ a. Bounded (sheetBounds a)) (d .before .read .ensures) (passed _ (d .in-range .ensures) (c .if2 .left)))))
+    (omega arith, none-more (l .t) (l .inv .1) (λ z. z (subst (λ a. Bounded (amendmentBounds a)) (d .before .read .ensures) (passed _ (d .in-range .ensures) (c .if2 .left)))))
 
 returns : tie.Need-returns Inv-loop μ-loop
 returns c = let l = c .before .loop in λ u h. l .inv .1 u (omega (arith, h, c .if1 .taken))
@@ -37,7 +36,7 @@ returns-2 c =
     let d = c .before in
     let l = d .before .before .before .loop in
     let out = failed _ (d .in-range .ensures) (c .if2 .taken) in
-    (l .t, (refl, (omega arith, ((λ h. out (subst (λ a. Bounded (sheetBounds a)) (sym (d .before .read .ensures)) h)), l .inv .1))))
+    (l .t, (refl, (omega arith, ((λ h. out (subst (λ a. Bounded (amendmentBounds a)) (sym (d .before .read .ensures)) h)), l .inv .1))))
 
 pub check-ranges-spec : {M : Type 1} → statement M
 check-ranges-spec =

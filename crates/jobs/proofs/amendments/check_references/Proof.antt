@@ -1,12 +1,11 @@
 -- `check_references` meets its contract: past each sheet that keeps the rule.
 use denote.Ref.{now}
-use mathlib.Core.Path.{_≡_, refl, sym, _∙_, ap, subst}
+use mathlib.Core.Path.{_≡_, refl, sym, _∙_, ap}
 use mathlib.Core.Bool.{false≢true}
-use mathlib.Core.List.{List}
-use Prim.Native.Nat.{ℕ, zero, suc, _+_, _-_, _≤_, _<_}
+use Prim.Native.Nat.{ℕ, _-_, _≤_, _<_}
 use native.Mathlib.Omega.{arith}
 use native.Mathlib.Numerals.{add-one}
-use Rattle.jobs.specs.Amendments.{amendmentsOf, amendment}
+use Rattle.jobs.specs.Amendments.{amendmentsOf}
 use Rattle.jobs.specs.ReasonTable.{serialBefore, Misreferenced}
 use Rattle.jobs.proofs.FirstRow.{none-more}
 use borrow.Author.Needs.{needs}

@@ -13,7 +13,7 @@ use borrow.Author.Tests.{not-true, not-false}
 use Rattle.lists.proofs.ArrayPass.{all-same}
 use Rattle.jobs.specs.Amendments.{Amendment, amendmentsOf, amendment, isInForce}
 use Rattle.jobs.specs.ReasonTable.{Twice}
-use Rattle.jobs.specs.AmendmentPasses.{Referenced, Superseded, Marks}
+use Rattle.jobs.specs.AmendmentPasses.{Superseded}
 use Rattle.jobs.proofs.AmendmentsInForce.{amendments-of, amendment-of, variable-below, in-force-iff, Governs}
 use Rattle.jobs.proofs.FirstRow.{none-more}
 use borrow.Author.Needs.{needs}

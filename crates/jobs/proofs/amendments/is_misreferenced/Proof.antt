@@ -1,15 +1,13 @@
 -- `is_misreferenced` meets its contract: each test is a part of the definition.
 use denote.Ref.{now}
-use mathlib.Core.Path.{_≡_, refl, sym, _∙_, ap, subst}
+use mathlib.Core.Path.{_≡_, refl, sym, _∙_, ap}
 use mathlib.Core.Logic.{_↔_, inl, inr, ⊎-elim}
 use mathlib.Core.Bool.{Bool, true, false, not, false≢true}
 use mathlib.Core.List.{List}
 use Prim.Native.Nat.{ℕ, _≤_, _<_}
 use native.Mathlib.Omega.{arith}
-use borrow.Author.Tests.{not-true, not-false}
 use Rattle.jobs.specs.Amendments.{Amendment, amendmentsOf, amendment}
-use Rattle.jobs.specs.ReasonTable.{serialBefore, Earlier, Misreferenced}
-use borrow.Author.Needs.{needs}
+use Rattle.jobs.specs.ReasonTable.{serialBefore, SupersedesEarlier, Misreferenced}
 use Rattle.jobs.proofs.amendments.is_misreferenced.Statement.{statement}
 use Rattle.jobs.proofs.amendments.is_misreferenced.Tie as tie
 
@@ -29,13 +27,13 @@ module _ (n t : ℕ) (xs : List Amendment) {before : ℕ} {a : Amendment} (e : a
 
   -- past the first two parts
   module _ (h : before < a .serial) (l : a .variable < n) where
-    third : Misreferenced n xs t → (¬ (a .supersedes ≡ 0)) × (¬ Earlier xs t)
+    third : Misreferenced n xs t → (¬ (a .supersedes ≡ 0)) × (¬ SupersedesEarlier xs t)
     third m = ⊎-elim (λ z. absurd (omega (arith, z, h, q, serial-is))) (λ m. ⊎-elim (λ z. absurd (omega (arith, z, l, variable-is))) (λ (z, f). ((λ y. z (ap (λ a. a .supersedes) (sym e) ∙ y)), f)) m) m
 
     supersedes-none : a .supersedes ≡ 0 → (false ≡ true) ↔ Misreferenced n xs t
     supersedes-none z = (λ y. absurd (false≢true y), λ m. absurd (third m .0 z))
 
-    supersedes-one : ¬ (a .supersedes ≡ 0) → (r : Bool) → (r ≡ true) ↔ Earlier xs t → (not r ≡ true) ↔ Misreferenced n xs t
+    supersedes-one : ¬ (a .supersedes ≡ 0) → (r : Bool) → (r ≡ true) ↔ SupersedesEarlier xs t → (not r ≡ true) ↔ Misreferenced n xs t
     supersedes-one z true f = (λ y. absurd (false≢true y), λ m. absurd (third m .1 (f .0 refl)))
     supersedes-one z false f = (λ _. inr (inr ((λ y. z (ap (λ a. a .supersedes) e ∙ y)), λ h. false≢true (f .1 h))), λ _. refl)
 

@@ -10,7 +10,7 @@ use lib.Seq.{getD-set-same, getD-set-other}
 use mir.Facts.{toZ-ofZ}
 use Rattle.ints.proofs.Signed.{held}
 use Rattle.jobs.specs.Bounds.{Bounds, noBounds}
-use Rattle.jobs.specs.Amendments.{Amendment, amendmentCount, amendmentsOf, amendment, sheetBounds}
+use Rattle.jobs.specs.Amendments.{Amendment, amendmentsOf, amendment, amendmentBounds}
 use Rattle.jobs.proofs.AmendmentsInForce.{amendments-of, variable-below}
 use borrow.Author.Needs.{needs}
 use Rattle.jobs.proofs.amendments.overlay.Statement.{statement}
@@ -19,11 +19,11 @@ use Rattle.jobs.proofs.amendments.overlay.Tie as tie
 -- the first k sheets are put over the bounds `before`
 record Over (xs : List Amendment) (k : ℕ) (before after : List Bounds) : Type 0 where
   long : length after ≡ 256
-  last : (t : ℕ) → t < k → ((u : ℕ) → t < u → u < k → ¬ (amendment xs u .variable ≡ amendment xs t .variable)) → getD after (amendment xs t .variable) noBounds ≡ sheetBounds (amendment xs t)
+  last : (t : ℕ) → t < k → ((u : ℕ) → t < u → u < k → ¬ (amendment xs u .variable ≡ amendment xs t .variable)) → getD after (amendment xs t .variable) noBounds ≡ amendmentBounds (amendment xs t)
   others : (i : ℕ) → ((t : ℕ) → t < k → ¬ (amendment xs t .variable ≡ i)) → getD after i noBounds ≡ getD before i noBounds
 
 -- and one more
-more : (xs : List Amendment) (k : ℕ) (before after : List Bounds) → Over xs k before after → (b : Bounds) → b ≡ sheetBounds (amendment xs k) → amendment xs k .variable < 256 → Over xs (k + 1) before (set after (amendment xs k .variable) b)
+more : (xs : List Amendment) (k : ℕ) (before after : List Bounds) → Over xs k before after → (b : Bounds) → b ≡ amendmentBounds (amendment xs k) → amendment xs k .variable < 256 → Over xs (k + 1) before (set after (amendment xs k .variable) b)
 more xs k before after o b e h = record {
   long = length-set after (amendment xs k .variable) b ∙ o .long;
   last = λ t l f. go t l f (ℕ-discrete t k);
@@ -33,7 +33,7 @@ more xs k before after o b e h = record {
     i : ℕ
     i = amendment xs k .variable
 
-    go : (t : ℕ) → t < k + 1 → ((u : ℕ) → t < u → u < k + 1 → ¬ (amendment xs u .variable ≡ amendment xs t .variable)) → Dec (t ≡ k) → getD (set after i b) (amendment xs t .variable) noBounds ≡ sheetBounds (amendment xs t)
+    go : (t : ℕ) → t < k + 1 → ((u : ℕ) → t < u → u < k + 1 → ¬ (amendment xs u .variable ≡ amendment xs t .variable)) → Dec (t ≡ k) → getD (set after i b) (amendment xs t .variable) noBounds ≡ amendmentBounds (amendment xs t)
     go t l f (yes z) = rw z (getD-set-same after i b noBounds (omega (arith, h, o .long)) ∙ e)
     go t l f (no z) = getD-set-other after i (amendment xs t .variable) b noBounds (λ q. f k (omega (arith, z, l)) (omega arith) (sym q)) ∙ o .last t (omega (arith, z, l)) (λ u p q. f u p (omega (arith, q)))
 
@@ -64,7 +64,7 @@ loop-again c =
     let xs = amendmentsOf (now (s .args .amendments)) in
     let told = c .struct-told .given in
     let a = r .read .result in
-    let b : _≡_ {A = Bounds} record { low = held (a .low); high = held (a .high) } (sheetBounds (amendment xs (l .t))) = ap₂ (λ x y. record { low = x; high = y }) (toZ-ofZ record { sfits = told .1 .1 .1 .0 .1 }) (toZ-ofZ record { sfits = told .1 .1 .1 .1 .0 .1 }) ∙ ap sheetBounds (r .read .ensures) in (
+    let b : _≡_ {A = Bounds} record { low = held (a .low); high = held (a .high) } (amendmentBounds (amendment xs (l .t))) = ap₂ (λ x y. record { low = x; high = y }) (toZ-ofZ record { sfits = told .1 .1 .1 .0 .1 }) (toZ-ofZ record { sfits = told .1 .1 .1 .1 .0 .1 }) ∙ ap amendmentBounds (r .read .ensures) in (
       omega arith,
       subst (λ i. Over xs (l .t + 1) (s .args .bounds) (set (l .after) i record { low = held (a .low); high = held (a .high) })) (sym (ap (λ a. a .variable) (r .read .ensures)))
           (more xs (l .t) (s .args .bounds) (l .after) (l .inv .1) _ b (omega (arith, below-256 r, ap (λ a. a .variable) (r .read .ensures)))),

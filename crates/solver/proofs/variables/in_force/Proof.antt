@@ -4,16 +4,13 @@ use mathlib.Core.Path.{_≡_, sym, _∙_, ap, subst}
 use mathlib.Core.Option.{none}
 use mathlib.Core.List.{List}
 use Prim.Native.Nat.{ℕ, _<_}
-use borrow.Author.Needs.{needs}
 use native.Mathlib.Omega.{arith}
 use lib.ListN.{length}
 use lib.IntN.{ℤ}
-use Rattle.lists.specs.Table.{Tabulates}
 use Rattle.jobs.specs.declared.Bounds.{Bounds}
 use Rattle.jobs.specs.Call.{Call, lendingNothing}
 use Rattle.jobs.specs.Job.{jobOf, variableCount}
-use Rattle.jobs.specs.Bounds.{noBounds}
-use Rattle.jobs.specs.Amendments.{amendmentsOf, boundsInForce, amended}
+use Rattle.jobs.specs.Amendments.{amendmentsOf, amended}
 use Rattle.jobs.specs.ReasonTable.{Misreferenced}
 use Rattle.jobs.specs.Faults.{firstBroken}
 use Rattle.jobs.specs.Lawful.{Lawful}
