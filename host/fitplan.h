@@ -233,7 +233,8 @@ struct fit_checked {
 struct fit_checked fit_check(const uint8_t *job, size_t job_length);
 
 /* The same of a job with its amendments: for which reason, 1 to 7, 11, 12, 13 or 5 of an amendment, a
- * planning call would refuse them, or 0. Without amendments it gives what fit_check does. */
+ * planning call would refuse them, or 0. Without amendments it gives what fit_check does. NULL as
+ * above. */
 struct fit_checked fit_check_amendments(const uint8_t *job, size_t job_length, const uint8_t *amendments,
                                         size_t amendments_length);
 

@@ -28,14 +28,18 @@ module _ (a : List ℕ) where
   abbrev k : ℕ
   k = amendmentCount a
 
-  abbrev pass : (ℕ → Reason) → List Reason
-  pass reason = table reason k
+  abbrev pub pass : (ℕ → Reason) → List Reason
+  pass reason = table reason (amendmentCount a)
 
-  abbrev afterTwice : List Reason
-  afterTwice = pass AmendmentTwice ++ pass AmendmentRange
+  -- what is left of the checks before each pass
+  abbrev pub fromTwice : List Reason
+  fromTwice = pass AmendmentTwice ++ pass AmendmentRange
 
-  abbrev afterReferences : List Reason
-  afterReferences = pass AmendmentReference ++ afterTwice
+  abbrev pub fromReferences : List Reason
+  fromReferences = pass AmendmentReference ++ fromTwice
+
+  abbrev pub fromZeros : List Reason
+  fromZeros = pass AmendmentZero ++ fromReferences
 
   -- a reason is of one of them
   data Pass (r : Reason) : Type 0 where
@@ -57,19 +61,19 @@ module _ (a : List ℕ) where
           (λ m. ⊎-elim (λ i. let (t, h, e) = in-table AmendmentTwice k r .0 i in of-twice t h e)
           (λ i. let (t, h, e) = in-table AmendmentRange k r .0 i in of-range t h e)
           (in-append (pass AmendmentTwice) (pass AmendmentRange) r .0 m))
-          (in-append (pass AmendmentReference) afterTwice r .0 m))
-          (in-append (pass AmendmentZero) afterReferences r .0 m)
+          (in-append (pass AmendmentReference) fromTwice r .0 m))
+          (in-append (pass AmendmentZero) fromReferences r .0 m)
 
-      second : r ∈ afterReferences → r ∈ amendmentChecks a
-      second m = there (in-append (pass AmendmentZero) afterReferences r .1 (inr m))
+      second : r ∈ fromReferences → r ∈ amendmentChecks a
+      second m = there (in-append (pass AmendmentZero) fromReferences r .1 (inr m))
 
-      third : r ∈ afterTwice → r ∈ amendmentChecks a
-      third m = second (in-append (pass AmendmentReference) afterTwice r .1 (inr m))
+      third : r ∈ fromTwice → r ∈ amendmentChecks a
+      third m = second (in-append (pass AmendmentReference) fromTwice r .1 (inr m))
 
       into : Pass r → r ∈ amendmentChecks a
       into (of-length e) = here e
-      into (of-zero t h e) = there (in-append (pass AmendmentZero) afterReferences r .1 (inl (in-table AmendmentZero k r .1 (t, h, e))))
-      into (of-reference t h e) = second (in-append (pass AmendmentReference) afterTwice r .1 (inl (in-table AmendmentReference k r .1 (t, h, e))))
+      into (of-zero t h e) = there (in-append (pass AmendmentZero) fromReferences r .1 (inl (in-table AmendmentZero k r .1 (t, h, e))))
+      into (of-reference t h e) = second (in-append (pass AmendmentReference) fromTwice r .1 (inl (in-table AmendmentReference k r .1 (t, h, e))))
       into (of-twice t h e) = third (in-append (pass AmendmentTwice) (pass AmendmentRange) r .1 (inl (in-table AmendmentTwice k r .1 (t, h, e))))
       into (of-range t h e) = third (in-append (pass AmendmentTwice) (pass AmendmentRange) r .1 (inr (in-table AmendmentRange k r .1 (t, h, e))))
 
@@ -227,7 +231,7 @@ module _ (c : Call) where
   -- their length among them, which is looked at first
   pub fault-length : firstBroken (lendingNothing (c .job) []) ≡ none → MisSized (c .amendments) → firstBroken c ≡ some AmendmentsLength
   unfolding firstBroken checks amendmentChecks
-  fault-length e h = first-stays (breaks? c) (givenChecks c) areaChecks (fault-of-amendments e ∙ first-here (breaks? c) AmendmentsLength (pass (c .amendments) AmendmentZero ++ afterReferences (c .amendments)) h)
+  fault-length e h = first-stays (breaks? c) (givenChecks c) areaChecks (fault-of-amendments e ∙ first-here (breaks? c) AmendmentsLength (fromZeros (c .amendments)) h)
 
   -- what the check of both reports the planner reports
   pub fault-checked : (r : Reason) → firstBroken (lendingNothing (c .job) (c .amendments)) ≡ some r → firstBroken c ≡ some r

@@ -1,8 +1,9 @@
 -- What a pass over rows answers, row by row, and that it is the first fault of the table's checks of these rows.
 use mathlib.Core.Path.{_≡_, sym, _∙_, ap, subst}
-use mathlib.Core.Logic.{_↔_}
+use mathlib.Core.Logic.{_↔_, _⊎_}
 use mathlib.Core.Option.{some}
 use Prim.Native.Nat.{ℕ, zero, suc, _+_, _<_}
+use native.Mathlib.Numerals.{add-one}
 use native.Mathlib.Omega.{arith}
 use native.Mathlib.Decide.{ℕ-discrete}
 use Rattle.reasons.specs.declared.Reason.{Reason}
@@ -14,7 +15,7 @@ use Rattle.jobs.specs.Call.{Call}
 use Rattle.jobs.specs.Amendments.{jobIn}
 use Rattle.jobs.specs.Component.{componentCount}
 use Rattle.jobs.specs.ReasonTable.{Broken}
-use Rattle.jobs.specs.Decide.{firstOf}
+use Rattle.jobs.specs.Decide.{below-next, firstOf}
 use Rattle.jobs.specs.Faults.{breaks?, faultOf}
 use Rattle.jobs.specs.FirstRow.{FirstRow}
 use Rattle.jobs.proofs.FirstOf.{first-here, first-later, holds-none}
@@ -26,6 +27,10 @@ none-more {P} t f n u h = go (ℕ-discrete u t)
     go : Dec (u ≡ t) → ¬ P u
     go (yes e) p = n (subst P e p)
     go (no e) p = f u (omega (arith, e, h)) p
+
+-- or may hold
+pub some-more : {P : ℕ → Type 0} (t : ℕ) → (P t ⊎ ((u : ℕ) × ((u < t) × P u))) ↔ ((u : ℕ) × ((u < t + 1) × P u))
+some-more {P} t = subst (λ k. (P t ⊎ ((u : ℕ) × ((u < t) × P u))) ↔ ((u : ℕ) × ((u < k) × P u))) (sym (add-one t)) (below-next t)
 
 -- the first row of a table of which P holds
 module _ {A : Type 0} {P : A → Type 0} (d : (x : A) → Dec (P x)) (f : ℕ → A) where

@@ -3,13 +3,12 @@ use denote.Ref.{now}
 use mathlib.Core.Path.{_≡_, sym, _∙_, ap, subst}
 use mathlib.Core.Logic.{inl, inr, ⊎-elim, _≢_}
 use mathlib.Core.Option.{Option, some}
-use mathlib.Core.List.{List, _++_}
+use mathlib.Core.List.{List}
 use Prim.Native.Nat.{ℕ, _*_, _≤_}
 use native.Mathlib.Omega.{arith}
 use lib.ListN.{length}
 use Rattle.reasons.specs.declared.Reason.{Reason}
 use Rattle.reasons.specs.declared.Reason.the-variants.{AmendmentsLength, AmendmentZero, AmendmentReference, AmendmentTwice, AmendmentRange}
-use Rattle.lists.specs.Table.{table}
 use Rattle.jobs.specs.declared.Checked.{Checked}
 use Rattle.jobs.specs.declared.Checked.the-variants.{Accepted, Refused}
 use Rattle.jobs.specs.Call.{Call, lendingNothing}
@@ -22,6 +21,7 @@ use Rattle.jobs.specs.Faults.{breaks?, faultOf}
 use Rattle.jobs.specs.FirstRow.{FirstRow}
 use Rattle.jobs.specs.AmendmentPasses.{Referenced}
 use Rattle.jobs.proofs.FirstOf.{first-here, first-later, first-past, first-stays}
+use Rattle.jobs.proofs.Faults.{pass, fromTwice, fromReferences, fromZeros}
 use Rattle.jobs.proofs.FirstRow.{pass-fault}
 use borrow.Author.Needs.{needs}
 use Rattle.jobs.proofs.amendments.check.Statement.{statement}
@@ -40,58 +40,45 @@ module _ (s a : List ℕ) where
   abbrev xs : List Amendment
   xs = amendmentsOf a
 
-  abbrev pass : (ℕ → Reason) → List Reason
-  pass reason = table reason k
-
-  -- what is left of the checks before each pass
-  abbrev fromTwice : List Reason
-  fromTwice = pass AmendmentTwice ++ pass AmendmentRange
-
-  abbrev fromReferences : List Reason
-  fromReferences = pass AmendmentReference ++ fromTwice
-
-  abbrev fromZeros : List Reason
-  fromZeros = pass AmendmentZero ++ fromReferences
-
   of-length : MisSized a → some AmendmentsLength ≡ first (amendmentChecks a)
   unfolding amendmentChecks
-  of-length h = sym (first-here (breaks? call) AmendmentsLength fromZeros h)
+  of-length h = sym (first-here (breaks? call) AmendmentsLength (fromZeros a) h)
 
   module _ (sized : length a ≡ 20 * k) (most : k ≤ 512) where
-    past-length : first (amendmentChecks a) ≡ first fromZeros
+    past-length : first (amendmentChecks a) ≡ first (fromZeros a)
     unfolding amendmentChecks
-    past-length = first-later (breaks? call) AmendmentsLength fromZeros (⊎-elim (λ n. n sized) (λ l. omega (arith, l, most)))
+    past-length = first-later (breaks? call) AmendmentsLength (fromZeros a) (⊎-elim (λ n. n sized) (λ l. omega (arith, l, most)))
 
     module _ (z : Checked) (of-zeros : FirstRow AmendmentZero (λ t. zeroAt a t ≢ 0) k z) where
-      zeros-fault : {w : Checked} → z ≡ w → first (pass AmendmentZero) ≡ faultOf w
+      zeros-fault : {w : Checked} → z ≡ w → first (pass a AmendmentZero) ≡ faultOf w
       zeros-fault e = pass-fault call AmendmentZero (λ t. zeroAt a t ≢ 0) k (λ t. (λ h. h, λ h. h)) z of-zeros ∙ ap faultOf e
 
       zeros-refused : {r : Reason} → z ≡ Refused r → some r ≡ first (amendmentChecks a)
-      zeros-refused e = sym (past-length ∙ first-stays (breaks? call) (pass AmendmentZero) fromReferences (zeros-fault e))
+      zeros-refused e = sym (past-length ∙ first-stays (breaks? call) (pass a AmendmentZero) (fromReferences a) (zeros-fault e))
 
       module _ (no-zeros : z ≡ Accepted) (r : Checked) (of-references : FirstRow AmendmentReference (Misreferenced (variableCount s) xs) k r) where
-        past-zeros : first (amendmentChecks a) ≡ first fromReferences
-        past-zeros = past-length ∙ first-past (breaks? call) (pass AmendmentZero) fromReferences (zeros-fault no-zeros)
+        past-zeros : first (amendmentChecks a) ≡ first (fromReferences a)
+        past-zeros = past-length ∙ first-past (breaks? call) (pass a AmendmentZero) (fromReferences a) (zeros-fault no-zeros)
 
-        references-fault : {w : Checked} → r ≡ w → first (pass AmendmentReference) ≡ faultOf w
+        references-fault : {w : Checked} → r ≡ w → first (pass a AmendmentReference) ≡ faultOf w
         references-fault e = pass-fault call AmendmentReference (Misreferenced (variableCount s) xs) k (λ t. (λ h. h, λ h. h)) r of-references ∙ ap faultOf e
 
         references-refused : {q : Reason} → r ≡ Refused q → some q ≡ first (amendmentChecks a)
-        references-refused e = sym (past-zeros ∙ first-stays (breaks? call) (pass AmendmentReference) fromTwice (references-fault e))
+        references-refused e = sym (past-zeros ∙ first-stays (breaks? call) (pass a AmendmentReference) (fromTwice a) (references-fault e))
 
         module _ (no-references : r ≡ Accepted) (t : Checked) (of-twice : FirstRow AmendmentTwice (Twice xs) k t) where
-          past-references : first (amendmentChecks a) ≡ first fromTwice
-          past-references = past-zeros ∙ first-past (breaks? call) (pass AmendmentReference) fromTwice (references-fault no-references)
+          past-references : first (amendmentChecks a) ≡ first (fromTwice a)
+          past-references = past-zeros ∙ first-past (breaks? call) (pass a AmendmentReference) (fromTwice a) (references-fault no-references)
 
-          twice-fault : {w : Checked} → t ≡ w → first (pass AmendmentTwice) ≡ faultOf w
+          twice-fault : {w : Checked} → t ≡ w → first (pass a AmendmentTwice) ≡ faultOf w
           twice-fault e = pass-fault call AmendmentTwice (Twice xs) k (λ t. (λ h. h, λ h. h)) t of-twice ∙ ap faultOf e
 
           twice-refused : {q : Reason} → t ≡ Refused q → some q ≡ first (amendmentChecks a)
-          twice-refused e = sym (past-references ∙ first-stays (breaks? call) (pass AmendmentTwice) (pass AmendmentRange) (twice-fault e))
+          twice-refused e = sym (past-references ∙ first-stays (breaks? call) (pass a AmendmentTwice) (pass a AmendmentRange) (twice-fault e))
 
           by-ranges : t ≡ Accepted → (g : Checked) → FirstRow AmendmentRange (λ t. ¬ Bounded (amendmentBounds (amendment xs t))) k g → faultOf g ≡ first (amendmentChecks a)
           by-ranges no-twice g of-ranges =
-              sym (past-references ∙ first-past (breaks? call) (pass AmendmentTwice) (pass AmendmentRange) (twice-fault no-twice)
+              sym (past-references ∙ first-past (breaks? call) (pass a AmendmentTwice) (pass a AmendmentRange) (twice-fault no-twice)
               ∙ pass-fault call AmendmentRange (λ t. ¬ Bounded (amendmentBounds (amendment xs t))) k (λ t. (λ h. h, λ h. h)) g of-ranges)
 
 -- with the number of variables read

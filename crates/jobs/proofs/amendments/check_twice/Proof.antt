@@ -1,7 +1,7 @@
 -- `check_twice` meets its contract: after each sheet those variables are taken for which one so far is in force.
 use denote.Ref.{now}
 use mathlib.Core.Path.{_≡_, refl, sym, _∙_, ap, subst}
-use mathlib.Core.Logic.{_↔_, _⊎_, inl, inr, ⊎-elim}
+use mathlib.Core.Logic.{_↔_, _⊎_, inr, ⊎-elim}
 use mathlib.Core.Bool.{Bool, true, false, false≢true}
 use mathlib.Core.List.{List}
 use Prim.Native.Nat.{ℕ, _+_, _-_, _≤_, _<_}
@@ -15,7 +15,7 @@ use Rattle.jobs.specs.Amendments.{Amendment, amendmentsOf, amendment, is
 use Rattle.jobs.specs.ReasonTable.{Twice}
 use Rattle.jobs.specs.AmendmentPasses.{Superseded}
 use Rattle.jobs.proofs.AmendmentsInForce.{amendments-of, amendment-of, variable-below, in-force-iff, Governs}
-use Rattle.jobs.proofs.FirstRow.{none-more}
+use Rattle.jobs.proofs.FirstRow.{none-more, some-more}
 use borrow.Author.Needs.{needs}
 use Rattle.jobs.proofs.amendments.check_twice.Statement.{statement}
 use Rattle.jobs.proofs.amendments.check_twice.Tie as tie
@@ -33,19 +33,12 @@ module _ (xs : List Amendment) (t : ℕ) (taken : List Bool) (m : Taken xs t tak
   i = amendment xs t .variable
 
   -- one sheet more
-  split : (j : ℕ) → Held xs (t + 1) j → Governs xs j t ⊎ Held xs t j
-  split j (u, (l, g)) = go (ℕ-discrete u t)
-    where
-      go : Dec (u ≡ t) → Governs xs j t ⊎ Held xs t j
-      go (yes e) = inl (subst (Governs xs j) e g)
-      go (no e) = inr (u, (omega (arith, e, l), g))
-
-  wider : (j : ℕ) → Held xs t j → Held xs (t + 1) j
-  wider j (u, (l, g)) = (u, (omega (arith, l), g))
+  more : (j : ℕ) → (Governs xs j t ⊎ Held xs t j) ↔ Held xs (t + 1) j
+  more j = some-more {P = Governs xs j} t
 
   -- it is superseded
   passed-by : Superseded xs t → Taken xs (t + 1) taken
-  passed-by s = record { long = m .long; at = λ j h. ((λ q. wider j (m .at j h .0 q)), λ f. m .at j h .1 (⊎-elim (λ g. absurd (in-force-iff xs t .0 (g .1) s)) (λ f. f) (split j f))) }
+  passed-by s = record { long = m .long; at = λ j h. ((λ q. more j .0 (inr (m .at j h .0 q))), λ f. m .at j h .1 (⊎-elim (λ g. absurd (in-force-iff xs t .0 (g .1) s)) (λ f. f) (more j .1 f))) }
 
   -- it is in force, for a variable that is taken or not
   module _ (n : isInForce xs t ≡ true) (small : i < 256) where
@@ -65,8 +58,8 @@ module _ (xs : List Amendment) (t : ℕ) (taken : List Bool) (m : Taken xs t tak
         )
         go j h (no e) =
             let other = getD-set-other taken i j true false e in (
-              λ q. wider j (m .at j h .0 (sym other ∙ q)),
-              λ f. other ∙ m .at j h .1 (⊎-elim (λ g. absurd (e (sym (g .0)))) (λ f. f) (split j f)),
+              λ q. more j .0 (inr (m .at j h .0 (sym other ∙ q))),
+              λ f. other ∙ m .at j h .1 (⊎-elim (λ g. absurd (e (sym (g .0)))) (λ f. f) (more j .1 f)),
             )
 
 abbrev Inv-loop : tie.InvT-loop

@@ -1,7 +1,7 @@
 -- `superseded` meets its contract: after each sheet those are marked that it or one before it supersedes.
 use denote.Ref.{now}
 use mathlib.Core.Path.{_≡_, sym, _∙_, ap, subst}
-use mathlib.Core.Logic.{_↔_, _⊎_, inl, inr, ⊎-elim}
+use mathlib.Core.Logic.{_↔_, _⊎_, inr, ⊎-elim}
 use mathlib.Core.Bool.{Bool, true, false, false≢true}
 use mathlib.Core.List.{List}
 use Prim.Native.Nat.{ℕ, _+_, _-_, _≤_, _<_}
@@ -12,6 +12,7 @@ use lib.Seq.{getD-set-same, getD-set-other}
 use Rattle.lists.proofs.ArrayPass.{all-same}
 use Rattle.jobs.specs.Amendments.{Amendment, amendmentsOf, amendment}
 use Rattle.jobs.specs.AmendmentPasses.{Referenced, PlaceOf}
+use Rattle.jobs.proofs.FirstRow.{some-more}
 use Rattle.jobs.proofs.AmendmentsInForce.{amendments-of, amendment-of, has-earlier, serial-positive, one-serial, place-is}
 use borrow.Author.Needs.{needs}
 use Rattle.jobs.proofs.amendments.superseded.Statement.{statement}
@@ -28,23 +29,16 @@ record Marked (xs : List Amendment) (k t : ℕ) (marks : List Bool) : Type 0 whe
 
 module _ {n k : ℕ} {xs : List Amendment} (r : Referenced n xs k) (t : ℕ) (h : t < k) (marks : List Bool) (m : Marked xs k t marks) where
   -- one sheet more: what it supersedes, or what an earlier one does
-  split : (u : ℕ) → By xs (t + 1) u → (amendment xs t .supersedes ≡ amendment xs u .serial) ⊎ By xs t u
-  split u (v, (l, e)) = go (ℕ-discrete v t)
-    where
-      go : Dec (v ≡ t) → (amendment xs t .supersedes ≡ amendment xs u .serial) ⊎ By xs t u
-      go (yes z) = inl (subst (λ v. amendment xs v .supersedes ≡ amendment xs u .serial) z e)
-      go (no z) = inr (v, (omega (arith, z, l), e))
-
-  wider : (u : ℕ) → By xs t u → By xs (t + 1) u
-  wider u (v, (l, e)) = (v, (omega (arith, l), e))
+  more : (u : ℕ) → ((amendment xs t .supersedes ≡ amendment xs u .serial) ⊎ By xs t u) ↔ By xs (t + 1) u
+  more u = some-more {P = λ v. amendment xs v .supersedes ≡ amendment xs u .serial} t
 
   -- it supersedes none
   skipped : amendment xs t .supersedes ≡ 0 → Marked xs k (t + 1) marks
   skipped z = record {
     long = m .long;
     at = λ u l. (
-      λ q. wider u (m .at u l .0 q),
-      λ b. m .at u l .1 (⊎-elim (λ e. absurd (omega (arith, z, e, serial-positive r u l))) (λ b. b) (split u b)),
+      λ q. more u .0 (inr (m .at u l .0 q)),
+      λ b. m .at u l .1 (⊎-elim (λ e. absurd (omega (arith, z, e, serial-positive r u l))) (λ b. b) (more u .1 b)),
     );
   }
 
@@ -72,8 +66,8 @@ module _ {n k : ℕ} {xs : List Amendment} (r : Referenced n xs k) (t : ℕ) (h 
         )
         go u l (no e) =
             let other = getD-set-other marks p u true false e in (
-              λ q. wider u (m .at u l .0 (sym other ∙ q)),
-              λ b. other ∙ m .at u l .1 (⊎-elim (λ q. absurd (e (one-serial r u p l (at-place .0) (sym q ∙ at-place .1)))) (λ b. b) (split u b)),
+              λ q. more u .0 (inr (m .at u l .0 (sym other ∙ q))),
+              λ b. other ∙ m .at u l .1 (⊎-elim (λ q. absurd (e (one-serial r u p l (at-place .0) (sym q ∙ at-place .1)))) (λ b. b) (more u .1 b)),
             )
 
 abbrev Inv-loop : tie.InvT-loop
