@@ -10,8 +10,11 @@ import time
 from .command import Failure, say
 
 ROOT = pathlib.Path(__file__).resolve().parents[2]
-PROGRAM = ROOT / "target/bin/fitplan"
-PROVED = re.compile(r"rt: (\S+) proved (\(.*\))")
+PROGRAM = ROOT / "crates/fitplan/out/fitplan"
+# what rt prints when a crate has been checked: a line that names it, and then its verdict; nothing of a crate that has not changed
+CHECKED = re.compile(r"crate (\w+): modules loaded=")
+PROVED = "logic=proved "
+UNCHANGED = "(unchanged since it was last proved)"
 
 
 def program():
@@ -29,8 +32,8 @@ def crates_under(name):
     needs, found = {}, []
     for line in (ROOT / "crates.txt").read_text().splitlines():
         crate, colon, others = line.split("#")[0].partition(":")
-        if colon:
-            needs[crate.strip()] = others.split()
+        if colon:  # behind the name may stand what kind of crate it is
+            needs[crate.split()[0]] = others.split()
 
     def visit(crate):
         if crate in needs and crate not in found:
@@ -42,9 +45,9 @@ def crates_under(name):
     return found
 
 
-def prove(label, words, crate, last=None):
-    """Run rt with these words, keep what it prints in a log, and say each crate that is proved. last: how the line begins that stands
-    for the crate itself where rt has no other. Gives whether rt ended well, and the log's path in the repository."""
+def prove(label, words, crate):
+    """Run rt with these words in the crate's folder, keep what it prints in a log, and say each crate that is proved. Gives whether rt
+    ended well, and the log's path in the repository."""
     if not any(os.access(os.path.join(folder, "rt"), os.X_OK) for folder in os.get_exec_path()):
         raise Failure("the planner has to be proved and built, and the Rattle kit's command rt is not on the PATH")
     crates, told, log, began = crates_under(crate), [], f"target/{label}.log", time.monotonic()
@@ -54,19 +57,26 @@ def prove(label, words, crate, last=None):
         out = open(ROOT / log, "w", encoding="utf-8")
     except OSError as error:
         raise Failure(f"cannot write to the folder {shown('target')}: {error.strerror}") from None
-    with out, subprocess.Popen(
-        ["rt", *words], cwd=ROOT, stdin=subprocess.DEVNULL, stdout=subprocess.PIPE, stderr=subprocess.STDOUT, text=True, errors="replace"
-    ) as rt:
-        for line in rt.stdout:
-            out.write(line)
-            found = PROVED.match(line)
-            name, how = found.groups() if found else ("", "")
-            if last and line.startswith(last):
-                name, how = crate, f"({time.monotonic() - began:.0f} s)"
+
+    def tell(names, how):
+        for name in names:
             if name in crates and name not in told:
                 told.append(name)
-                began = time.monotonic()
                 say(label, f"{name} proved {how}, {len(told)} of {len(crates)}")
+
+    where, streams = ROOT / "crates" / crate, {"stdin": subprocess.DEVNULL, "stdout": subprocess.PIPE, "stderr": subprocess.STDOUT}
+    with out, subprocess.Popen(["rt", *words], cwd=where, **streams, text=True, errors="replace") as rt:
+        name = ""
+        for line in rt.stdout:
+            out.write(line)
+            found = CHECKED.match(line)
+            name = found.group(1) if found else name
+            if name and line.startswith(PROVED):
+                tell(crates_under(name)[:-1], UNCHANGED)
+                tell([name], f"({time.monotonic() - began:.0f} s)")
+                name, began = "", time.monotonic()
+    if rt.returncode == 0:
+        tell(crates, UNCHANGED)
     return rt.returncode == 0, log
 
 
@@ -91,9 +101,7 @@ def fresh():
         return
     begun = time.time_ns()
     was_there = PROGRAM.exists()
-    if not was_there:  # without it rt takes the program for built
-        (ROOT / "target/stamp/fitplan").unlink(missing_ok=True)
-    good, log = prove("fitplan", ["check", "fitplan"], "fitplan")
+    good, log = prove("fitplan", ["run", "--", "plan"], "fitplan")  # rt builds a program only to run it: on no input, which is refused
     if not good:
         show_log(log)
         PROGRAM.unlink(missing_ok=True)  # it may be there, and have failed its own run
@@ -103,6 +111,6 @@ def fresh():
             f"what stands above is in {shown(log)} too: mend what the first error names, and run the command again",
         )
     if not PROGRAM.exists():
-        raise Failure("rt check fitplan ended well, and left no program")
+        raise Failure("rt run ended well, and left no program")
     # a file of code that was changed during the build counts as newer
     os.utime(PROGRAM, ns=(begun, begun))
