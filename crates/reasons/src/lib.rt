@@ -2,13 +2,14 @@
 //!
 //! Read `specs/Numbers.antt` beside this file: it gives the papers' number and row of each case; `specs/Answer.antt` says what a
 //! working answers.
+#![tactic(auto)]
 
 ghost use Rattle.std.specs.Prelude.{◌≡◌};
 ghost use Rattle.reasons.specs.Numbers.{number_of, row_of};
 
 /// The reasons of document 01's table, in its order, and those that document 02 adds. A case that the table reports with a row carries that row;
 /// two cases may share a number. What the papers call a count is a variable here.
-#[derive(Drop)]
+#[derive(Clone, Copy)]
 pub enum Reason {
     /// The job has fewer bytes than its header.
     ShortJob,
