@@ -1,6 +1,7 @@
 //! Whole numbers: the division working, and the laws of ℤ that the proofs of every other crate go by.
 //!
 //! Read `specs/Lib.antt` for the definitions, then this file; `proofs/Lib.antt` says what other proofs import.
+#![tactic(auto)]
 
 ghost use Rattle.std.specs.Prelude.{◌≡◌, ◌≢◌, pos, nat_abs};
 ghost use Rattle.ints.specs.Within.{Within, is_within};
@@ -10,7 +11,7 @@ ghost use Rattle.ints.specs.Division.{division_answer_of, division, limit, Divis
 use reasons::Reason;
 
 /// What `divide` answers.
-#[derive(Drop)]
+#[derive(Clone, Copy)]
 pub enum Division {
     Quotient(i64),
     Refused(Reason),

@@ -11,20 +11,13 @@ use Rattle.ints.specs.Division.{DivisionLimits}
 use Rattle.ints.proofs.Linear.{lin, lin₀, facts}
 use Rattle.ints.proofs.Signed.{held, signed}
 use Rattle.ints.proofs.Floor.{floor-Within}
-use Rattle.ints.proofs.Answers.{fits_limit, asked, answered}
-use Rattle.ints.proofs.ceiling.Statement.{statement}
-use Rattle.ints.proofs.ceiling.Tie as tie
+use Rattle.ints.proofs.Answers.{fits_limit, answered}
+use Rattle.ints.proofs.ceiling.Goals as goal
 
 -- of numbers within the limits; a program's −x is 0 − x
 module _ (n d : ℤ) (h : DivisionLimits n d) where
   limits : DivisionLimits (pos 0 -ℤ n) d
   limits = record { dividend = lin (n ∷ []) h.dividend (search facts depth 20) (omega arith); divisor = h.divisor; not_zero = h.not_zero }
-
-  turned_asked : SFits w64 (pos 0 -ℤ held n)
-  turned_asked = rw (to_z-of_z (fits_limit h.dividend)) (fits_limit limits.dividend)
-
-  limits_asked : DivisionLimits (held (pos 0 -ℤ held n)) (held d)
-  limits_asked = rw (to_z-of_z (fits_limit h.dividend)) (asked limits)
 
   module _ (q : ℤ) (e : q ≡ floor_div (held (pos 0 -ℤ held n)) (held d)) where
     q_is : q ≡ floor_div (pos 0 -ℤ n) d
@@ -48,17 +41,8 @@ module _ (n d : ℤ) (h : DivisionLimits n d) where
         let back : pos 0 -ℤ q ≡ neg_ℤ q = lin₀ (q ∷ []) (search facts depth 20) (omega arith) in
         to_z-of_z result_asked ∙ ap (λ t. pos 0 -ℤ t) (to_z-of_z fits_q) ∙ back ∙ ap neg_ℤ (q_is ∙ ap (λ t. floor_div t d) turned)
 
-sub-quotient : tie.Need-overflow-sub-quotient
-sub-quotient c = turned_asked c.args.n c.args.d c.requires
+pub overflow_sub-result : goal.overflow_sub-result
+overflow_sub-result c = result_asked c.args.n c.args.d c.requires c.quotient.result c.quotient.ensures
 
-quotient-requires : tie.Need-quotient-requires
-quotient-requires c κs = limits_asked c.args.n c.args.d c.requires
-
-sub-result : tie.Need-overflow-sub-result
-sub-result c = let s = c.before in result_asked s.args.n s.args.d s.requires c.quotient.result c.quotient.ensures
-
-returns : tie.Need-returns
-returns c = let s = c.before in result_is s.args.n s.args.d s.requires c.quotient.result c.quotient.ensures
-
-pub ceiling-spec : {M : Type 1} → statement M
-ceiling-spec = tie.close (tie.spec sub-quotient quotient-requires sub-result returns)
+pub returns : goal.returns
+returns c = result_is c.args.n c.args.d c.requires c.quotient.result c.quotient.ensures
