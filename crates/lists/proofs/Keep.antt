@@ -35,9 +35,10 @@ module _ {A : Type 0} (p : A → Bool) where
 
   keep_out : (xs : List A) {z : A} → z ∈ keep p xs → (z ∈ xs) × (p z ≡ true)
   unfolding keep
+  keep_out [] h = elim h [ ]
   keep_out (x ∷ xs) h = ⊎_elim (λ k. (here k.0, k.1)) (λ k. let (m, t) = keep_out xs k in (there m, t)) (cond_out (p x) refl h)
 
-  keep_into : {xs : List A} {z : A} → z ∈ xs → p z ≡ true → z ∈ keep p xs
+  keep_into : {z : A} {xs : List A} → z ∈ xs → p z ≡ true → z ∈ keep p xs
   unfolding keep
   keep_into (here {x} {xs} e) t = cond_here (p x) (keep p xs) refl t e
   keep_into (there {x} h) t = cond_there (p x) x (keep_into h t)
@@ -80,7 +81,7 @@ module _ {A : Type 0} (p : A → Bool) where
       go false e = e
 
   -- ---- every
-  every_out : {xs : List A} {z : A} → every p xs ≡ true → z ∈ xs → p z ≡ true
+  every_out : {z : A} {xs : List A} → every p xs ≡ true → z ∈ xs → p z ≡ true
   unfolding every
   every_out t (here {x} {xs} e) = ap p e ∙ ((and-eq-true_iff (p x) (every p xs)).0 t).0
   every_out t (there {x} {xs} h) = every_out ((and-eq-true_iff (p x) (every p xs)).0 t).1 h
@@ -119,7 +120,7 @@ module _ {A : Type 0} (p : A → Bool) where
   any_out [] t = absurd (false≢true t)
   any_out (x ∷ xs) t = ⊎_elim (λ e. (x, here refl, e)) (λ e. let (z, h, q) = any_out xs e in (z, there h, q)) (or_out (p x) (any p xs) t)
 
-  any_into : {xs : List A} {z : A} → z ∈ xs → p z ≡ true → any p xs ≡ true
+  any_into : {z : A} {xs : List A} → z ∈ xs → p z ≡ true → any p xs ≡ true
   unfolding any
   any_into (here {x} {xs} e) t = rw (sym (ap p e) ∙ t)
   any_into (there {x} {xs} h) t = or_right (p x) (any p xs) (any_into h t)

@@ -8,12 +8,17 @@ use Rattle.ints.proofs.Order.{lt_asym, lt_ne, lt_trans, le_antisym}
 use Rattle.lists.specs.Lexicographic.{Lower, now, later}
 
 pub Lower-asym : (xs ys : List ℤ) → Lower xs ys → Lower ys xs → ⊥
+Lower-asym [] ys h k = elim h [ ]
+Lower-asym (x ∷ xs) [] h k = elim h [ ]
 Lower-asym (x ∷ xs) (y ∷ ys) (now h) (now k) = lt_asym x y h k
 Lower-asym (x ∷ xs) (y ∷ ys) (now h) (later e k) = lt_ne x y h (sym e)
 Lower-asym (x ∷ xs) (y ∷ ys) (later e h) (now k) = lt_ne y x k (sym e)
 Lower-asym (x ∷ xs) (y ∷ ys) (later e h) (later e' k) = Lower-asym xs ys h k
 
 pub Lower-trans : (xs ys zs : List ℤ) → Lower xs ys → Lower ys zs → Lower xs zs
+Lower-trans [] ys zs h k = elim h [ ]
+Lower-trans (x ∷ xs) [] zs h k = elim h [ ]
+Lower-trans (x ∷ xs) (y ∷ ys) [] h k = elim k [ ]
 Lower-trans (x ∷ xs) (y ∷ ys) (z ∷ zs) (now h) (now k) = now (lt_trans x y z h k)
 Lower-trans (x ∷ xs) (y ∷ ys) (z ∷ zs) (now h) (later e k) = now (rw e at h)
 Lower-trans (x ∷ xs) (y ∷ ys) (z ∷ zs) (later e h) (now k) = now (rw (sym e) at k)

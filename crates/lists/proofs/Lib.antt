@@ -4,6 +4,8 @@
 pub mod Members
 -- what stands at each place of a list, and of lists one behind the other: `same_places`, `flat_map_at`
 pub mod Places
+-- two rising lists with the same members begin alike
+pub mod Heads
 -- two rising lists with the same members are equal (`same_members`): every "equals the definition" of later crates goes by this
 pub mod Rising
 -- a list from its last member to its first has the same members (`in-reverse`), and rises the other way (`Rising-reverse`)

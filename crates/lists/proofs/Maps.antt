@@ -5,7 +5,7 @@ use mathlib.Core.List.{List, [], ◌∷◌, ◌++◌, map, flat_map, append_asso
 use Rattle.lists.specs.Members.{◌∈◌, here, there}
 
 module _ {A B : Type 0} (f g : A → B) where
-  pub same_values : {xs : List A} {x : A} → map f xs ≡ map g xs → x ∈ xs → f x ≡ g x
+  pub same_values : {x : A} {xs : List A} → map f xs ≡ map g xs → x ∈ xs → f x ≡ g x
   same_values e (here h) = ap f h ∙ head-eq_of_cons-eq e ∙ sym (ap g h)
   same_values e (there h) = same_values (tail-eq_of_cons-eq e) h
 

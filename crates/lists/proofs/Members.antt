@@ -16,6 +16,7 @@ module _ {A : Type 0} where
   member_at (x ∷ xs) (suc k) d h = there (member_at xs k d (omega arith))
 
   pub place_of : (xs : List A) (d : A) {z : A} → z ∈ xs → (k : ℕ) × (k < length xs) × (z ≡ get_or xs k d)
+  place_of [] d x = elim x [ ]
   place_of (x ∷ xs) d (here e) = (0, omega arith, e)
   place_of (x ∷ xs) d (there h) = let (k, l, e) = place_of xs d h in (suc k, omega arith, e)
 

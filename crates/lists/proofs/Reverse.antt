@@ -18,7 +18,7 @@ module _ {A : Type 0} where
   reverse_out (x ∷ xs) {z} h =
       ⊎_elim (λ k. there (reverse_out xs k)) (λ k. here (the_one k)) ((in-append (reverse xs) (x ∷ []) z).0 (subst (λ l. z ∈ l) (reverse-cons x xs) h))
 
-  reverse_into : {xs : List A} {z : A} → z ∈ xs → z ∈ reverse xs
+  reverse_into : {z : A} {xs : List A} → z ∈ xs → z ∈ reverse xs
   reverse_into {z} (here {x} {xs} e) = rw (reverse-cons x xs) ((in-append (reverse xs) (x ∷ []) z).1 (inr (here e)))
   reverse_into {z} (there {x} {xs} h) = rw (reverse-cons x xs) ((in-append (reverse xs) (x ∷ []) z).1 (inl (reverse_into h)))
 

@@ -9,29 +9,19 @@ use native.Mathlib.Omega.{arith}
 use lib.ListN.{length, get_or}
 use Rattle.lists.specs.Members.{◌∈◌, here, there}
 use Rattle.lists.specs.Rising.{Rising, none, more}
+use Rattle.lists.proofs.Heads.{head, tail}
 use Rattle.lists.proofs.Members.{member_at, in-append, in-map, in-flat_map}
 
 module _ {A : Type 0} {R : A → A → Type 0} (asym : (x y : A) → R x y → R y x → ⊥) where
-  -- the heads of two rising lists with the same members
-  head : {x y : A} {xs ys : List A} → ((z : A) → z ∈ xs → R x z) → ((z : A) → z ∈ ys → R y z) → x ∈ y ∷ ys → y ∈ x ∷ xs → x ≡ y
-  head f g (here e) k = e
-  head f g (there h) (here e) = sym e
-  head {x} {y} f g (there h) (there k) = absurd (asym x y (f y k) (g x h))
-
-  -- a member of the one tail is a member of the other
-  tail : {x y z : A} {xs ys : List A} → ((z : A) → z ∈ xs → R x z) → x ≡ y → z ∈ xs → z ∈ y ∷ ys → z ∈ ys
-  tail {x} {y} {z} f e h (here e') = let r : R x x = rw (e' ∙ sym e) at (f z h) in absurd (asym x x r r)
-  tail f e h (there k) = k
-
   pub same_members : {xs ys : List A} → Rising R xs → Rising R ys → ((z : A) → z ∈ xs ↔ z ∈ ys) → xs ≡ ys
   same_members none none m = refl
   same_members none (more {x = y} g s) m = absurd (Memᴰ.not-nil ((m y).1 (here refl)))
   same_members (more {x} f r) none m = absurd (Memᴰ.not-nil ((m x).0 (here refl)))
   same_members (more {x} {xs} f r) (more {x = y} {xs = ys} g s) m =
-      ap₂ ◌∷◌ e (same_members r s λ z. (λ h. tail f e h ((m z).0 (there h)), λ h. tail g (sym e) h ((m z).1 (there h))))
+      ap₂ ◌∷◌ e (same_members r s λ z. (λ h. tail asym f e h ((m z).0 (there h)), λ h. tail asym g (sym e) h ((m z).1 (there h))))
     where
       e : x ≡ y
-      e = head f g ((m x).0 (here refl)) ((m y).1 (here refl))
+      e = head asym f g ((m x).0 (here refl)) ((m y).1 (here refl))
 
 -- what stands at two places of a rising list
 pub Rising-at : {A : Type 0} {R : A → A → Type 0} {xs : List A} → Rising R xs → (i k : ℕ) (d : A) → i < k → k < length xs → R (get_or xs i d) (get_or xs k d)

@@ -16,6 +16,7 @@ use Rattle.lists.proofs.Rising.{Rising-at}
 module _ {A : Type 0} (f : ℕ → A) where
   from_out : (i n : ℕ) {z : A} → z ∈ table_from f i n → (k : ℕ) × (i ≤ k) × (k < i + n) × (z ≡ f k)
   unfolding table_from
+  from_out i zero x = elim x [ ]
   from_out i (suc n) (here e) = (i, omega arith, omega arith, e)
   from_out i (suc n) (there h) = let (k, a, b, e) = from_out (suc i) n h in (k, omega arith, omega arith, e)
 
