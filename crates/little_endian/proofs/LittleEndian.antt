@@ -6,7 +6,7 @@ use native.Mathlib.Nat.{pow-succ'}
 use native.Mathlib.Omega.{arith}
 use lib.ListN.{length, get_or, get_or-append}
 use Rattle.lists.proofs.Places.{get_d_past, flat_map_at}
-use Rattle.bytes.specs.LittleEndian.{unsigned, bytes_of}
+use Rattle.little_endian.specs.LittleEndian.{unsigned, bytes_of}
 
 -- ---- where a number is read: only its own k bytes count
 unsigned_same : (k : ℕ) (s t : List ℕ) (a b : ℕ) → ((i : ℕ) → i < k → get_or s (a + i) 0 ≡ get_or t (b + i) 0) → unsigned k s a ≡ unsigned k t b

@@ -1,7 +1,7 @@
 -- What the inner functions promise each other. A reader who believes the definitions need not read this.
 use Rattle.std.specs.Prelude.{◌≡◌, ℕ, ◌+◌, ◌^◌, ℤ, pos, nat_abs}
 use Rattle.ints.specs.Floor.{floor_mod}
-use Rattle.bytes.specs.LittleEndian.{twos_complement}
+use Rattle.little_endian.specs.LittleEndian.{twos_complement}
 
 -- r is what x says in two's complement, at the width that holds numbers up to most
 pub record SignedOf (most x : ℕ) (r : ℤ) : Type 0 where

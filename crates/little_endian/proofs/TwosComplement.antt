@@ -16,9 +16,9 @@ use Rattle.ints.proofs.{ℤ, pos, negsuc, neg_ℤ, nat_abs, ◌+ℤ◌, ◌-ℤ�
 use Rattle.ints.proofs.Order.{abs_nonneg, abs_nonpos}
 use Rattle.ints.proofs.Residues.{residue_below, residue_whole}
 use Rattle.ints.proofs.Signed.{held}
-use Rattle.bytes.specs.LittleEndian.{unsigned, twos_complement, bytes_of, signed_bytes}
-use Rattle.bytes.specs.Method.{Residue}
-use Rattle.bytes.proofs.LittleEndian.{unsigned-bytes_of, length-bytes_of}
+use Rattle.little_endian.specs.LittleEndian.{unsigned, twos_complement, bytes_of, signed_bytes}
+use Rattle.little_endian.specs.Method.{Residue}
+use Rattle.little_endian.proofs.LittleEndian.{unsigned-bytes_of, length-bytes_of}
 
 -- ---- two's complement, as the code has it: up to half of the greatest number the number itself, and else −1 less what is
 -- left up to the greatest

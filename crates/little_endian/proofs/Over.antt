@@ -8,7 +8,7 @@ use lib.ListN.{length, take, drop, set, length-drop, drop_of_length-le}
 use lib.Seq.{take_all}
 use borrow.Rule.Slice.PartMut.{mid_of, post_of, put_mid}
 use Rattle.lists.proofs.Places.{length_both}
-use Rattle.bytes.specs.Over.{over}
+use Rattle.little_endian.specs.Over.{over}
 
 -- the first byte of the area stays where the place is not the first
 over-cons : (at : ℕ) (b : List ℕ) (x : ℕ) (a : List ℕ) → over (suc at) b (x ∷ a) ≡ x ∷ over at b a

@@ -7,8 +7,8 @@ use native.Mathlib.Decide.{ℕ_discrete}
 use native.Mathlib.Omega.{arith}
 use lib.ListN.{length, get_or}
 use Rattle.lists.proofs.Places.{length_both, length-flat_map}
-use Rattle.bytes.specs.LittleEndian.{unsigned}
-use Rattle.bytes.proofs.LittleEndian.{unsigned_first, unsigned_past, unsigned_part}
+use Rattle.little_endian.specs.LittleEndian.{unsigned}
+use Rattle.little_endian.proofs.LittleEndian.{unsigned_first, unsigned_past, unsigned_part}
 
 -- row i of n ends where they end, or before
 pub row_inside : (w i n : ℕ) → i < n → w * i + w ≤ w * n

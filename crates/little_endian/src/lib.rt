@@ -1,10 +1,11 @@
 //! Little-endian numbers in bytes, read and written.
+#![tactic(auto)]
 
 ghost use Rattle.std.specs.Prelude.{◌≡◌, ◌+◌, ◌≤◌, ◌<◌, ◌^◌, length};
 ghost use Rattle.ints.specs.Within.{Within};
-ghost use Rattle.bytes.specs.LittleEndian.{unsigned, u16, u32, i32, i64, bytes_of, signed_bytes};
-ghost use Rattle.bytes.specs.Over.{over};
-ghost use Rattle.bytes.specs.Method.{SignedOf, Residue};
+ghost use Rattle.little_endian.specs.LittleEndian.{unsigned, u16, u32, i32, i64, bytes_of, signed_bytes};
+ghost use Rattle.little_endian.specs.Over.{over};
+ghost use Rattle.little_endian.specs.Method.{SignedOf, Residue};
 
 /// The number in `width` bytes from a place on, read from the highest byte down.
 pub fn get(s: &[u8], at: usize, width: usize) -> u64
