@@ -2,6 +2,7 @@
 //! runs `Factor`, with the cofactor of the first.
 //!
 //! Read `specs/Lib.antt` for the definitions, then this file.
+#![tactic(auto)]
 
 ghost use Rattle.std.specs.Prelude.{◌≡◌, pos, nat_abs, ◌<ℤ◌, ◌≤ℤ◌};
 ghost use Rattle.reasons.specs.Answer.{RefusedUnless};
@@ -14,7 +15,7 @@ ghost use Rattle.euclid.specs.Factor.{IsFactor};
 use reasons::Reason;
 
 /// What `common_divisor` answers.
-#[derive(Drop)]
+#[derive(Clone, Copy)]
 pub enum CommonDivisor {
     /// The greatest, and the number of divisions made.
     Greatest(i64, u32),
@@ -37,7 +38,7 @@ pub fn common_divisor(a: i64, b: i64) -> CommonDivisor
 }
 
 /// The greatest common divisor of a and b: a·cofactor is gcd modulo b, and so many divisions were made to find it.
-#[derive(Drop)]
+#[derive(Clone, Copy)]
 pub struct Factor {
     pub gcd: i64,
     pub cofactor: i64,
@@ -80,7 +81,7 @@ impl Factor {
         let mut s0: i64 = 1;
         let mut s1: i64 = 0;
         let mut made: u32 = 0;
-        loop {
+        'turns: loop {
             let q = r0 / r1;
             let r2 = r0 % r1;
             let s2 = s0 - q * s1;
