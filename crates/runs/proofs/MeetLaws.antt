@@ -6,7 +6,7 @@ use mathlib.Core.Logic.{◌↔◌}
 use mathlib.Core.Bool.{true}
 use mathlib.Core.List.{List, [], ◌∷◌}
 use Rattle.ints.proofs.{ℤ}
-use Rattle.lists.specs.Members.{◌∈◌, here}
+use Rattle.lists.specs.Members.{◌∈◌, here, there}
 use Rattle.lists.specs.Keep.{every}
 use Rattle.lists.specs.Permutation.{Permutation}
 use Rattle.lists.proofs.Members.{each_append}
@@ -62,6 +62,7 @@ in_met (alone r) f x = (only, λ k. k r (here refl))
   where
     only : InRun r x → InAll (r ∷ []) x
     only k s (here e) = rw e k
+    only k s (there h) = elim h [ ]
 in_met (pair g h) f x =
     let (f₀, f₁) = (each_append OneForm (leaves g) (leaves h)).0 f in
     let in-each = each_append (λ r. InRun r x) (leaves g) (leaves h) in

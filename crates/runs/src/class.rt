@@ -6,14 +6,14 @@ ghost use Rattle.runs.specs.Method.{greater, smaller, common, Countable, counted
 use crate::Run;
 
 /// The whole numbers first + step·k for every whole k.
-#[derive(Drop)]
+#[derive(Clone, Copy)]
 pub struct Class {
     pub first: i64,
     pub step: i64,
 }
 
 /// From a low to a high number, both included.
-#[derive(Drop)]
+#[derive(Clone, Copy)]
 pub struct Interval {
     pub low: i64,
     pub high: i64,

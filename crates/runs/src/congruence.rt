@@ -9,7 +9,7 @@ use crate::class::Class;
 use euclid::Factor;
 
 /// u·i ≡ v (mod d), for an unknown i.
-#[derive(Drop)]
+#[derive(Clone, Copy)]
 pub struct Congruence {
     pub u: i64,
     pub v: i64,
@@ -17,7 +17,7 @@ pub struct Congruence {
 }
 
 /// Its solutions: none, or the numbers of one class, starting at the least non-negative one, in steps of the period.
-#[derive(Drop)]
+#[derive(Clone, Copy)]
 pub enum Solutions {
     Nothing,
     Every(Class),

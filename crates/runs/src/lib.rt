@@ -1,6 +1,7 @@
 //! Runs: arithmetic progressions of whole numbers. The meeting and the carrying workings.
 //!
 //! Read `specs/Lib.antt` for the definitions, then this file, then the modules in their order.
+#![tactic(auto)]
 
 ghost use Rattle.std.specs.Prelude.{◌≡◌};
 ghost use Rattle.reasons.specs.Answer.{RefusedUnless};
@@ -20,7 +21,7 @@ mod congruence;
 
 /// An arithmetic progression, document 01's run: `many` numbers, from `first` on by `step`. Its one form: empty is 0, 0, 0;
 /// one number has step 0; otherwise the step is at least 1; and all its numbers lie within ±1,000,000,000.
-#[derive(Drop)]
+#[derive(Clone, Copy)]
 pub struct Run {
     pub first: i64,
     pub step: i64,
@@ -28,7 +29,7 @@ pub struct Run {
 }
 
 /// The equation a·p + b·q = c between two numbers, document 01's tie.
-#[derive(Drop)]
+#[derive(Clone, Copy)]
 pub struct Equation {
     pub a: i64,
     pub b: i64,
@@ -36,7 +37,7 @@ pub struct Equation {
 }
 
 /// What a working on runs answers.
-#[derive(Drop)]
+#[derive(Clone, Copy)]
 pub enum Working {
     Gives(Run),
     Refused(Reason),

@@ -14,32 +14,11 @@ use Rattle.euclid.specs.Factor.{IsFactor}
 use Rattle.ints.proofs.Answers.{fits_limit, asked, answered}
 use Rattle.euclid.proofs.Euclid.{cofactor_range}
 use Rattle.runs.proofs.CongruenceSolutions.{limits, period_range, every_by, limits_value, limits_modulus}
-use Rattle.runs.proofs.congruence.Congruence.class_by.Statement.{statement}
+use Rattle.runs.proofs.congruence.Congruence.class_by.Goals.{After-quotient, After-quotient-step, After-remainder-x, After-remainder-y, Start}
+use Rattle.runs.proofs.congruence.Congruence.class_by.Lts as lts
 use Rattle.runs.proofs.congruence.Congruence.class_by.Tie as tie
 use Rattle.runs.proofs.congruence.Congruence.class_by.Reads as reads
-use Rattle.runs.proofs.congruence.Congruence.class_by.Lts as lts
-use Rattle.ints.proofs.quotient.Reads as quotient-reads
-use Rattle.ints.proofs.remainder.Reads as remainder-reads
-
--- what the functions that are called ask, and tell
-abbrev claims : lts.Claims
-claims = (quotient-reads.Asked, quotient-reads.Learnt, remainder-reads.Asked, remainder-reads.Learnt)
-
--- the places after each call but the last
-abbrev Start : Type 0
-Start = lts.Start claims reads.Pre reads.Post
-
-abbrev Step : Type 0
-Step = lts.After-quotient claims reads.Pre reads.Post
-
-abbrev Cofactor : Type 0
-Cofactor = lts.After-remainder claims reads.Pre reads.Post
-
-abbrev Share : Type 0
-Share = lts.After-quotient2 claims reads.Pre reads.Post
-
-abbrev Rest : Type 0
-Rest = lts.After-remainder2 claims reads.Pre reads.Post
+use Rattle.runs.proofs.congruence.Congruence.class_by.Goals as goal
 
 -- ---- the arguments
 module _ (s : Start) where
@@ -56,30 +35,30 @@ module _ (s : Start) where
   x = s.args.f.cofactor
 
   factor : IsFactor s.args.self.u d g x
-  factor = s.pre.1.0
+  factor = s.requires.factor
 
   above : pos 0 <ℤ d
-  above = s.pre.0.above
+  above = s.requires.in_reach.above
 
   most : d ≤ℤ pos 2000000000
-  most = s.pre.0.modulus
+  most = s.requires.in_reach.modulus
 
   limits_d : DivisionLimits d g
-  limits_d = limits_modulus s.pre.0 factor
+  limits_d = limits_modulus s.requires.in_reach factor
 
   limits_v : DivisionLimits v g
-  limits_v = limits_value s.pre.0 factor
+  limits_v = limits_value s.requires.in_reach factor
 
 -- ---- the step
-module _ (c : Step) where
+module _ (c : lts.After-quotient tie.the-claims reads.Pre reads.Post tie.handed_clauses) where
   abbrev start : Start
   start = c.before.before.before
 
   abbrev step : ℤ
-  step = c.quotient.result
+  step = c.quotient-step.result
 
   step_is : step ≡ floor_div (d start) (g start)
-  step_is = answered (limits_d start) floor_div c.quotient.ensures
+  step_is = answered (limits_d start) floor_div c.quotient-step.ensures
 
   step_range : (pos 0 <ℤ step) × (step ≤ℤ pos 2000000000)
   step_range =
@@ -98,29 +77,29 @@ module _ (c : Step) where
   rest_Within {r} n e = lin (r ∷ step ∷ floor_mod n step ∷ []) (e & mod_range n step step_range.0 & step_range) (search facts depth 20) (omega arith)
 
 -- ---- the cofactor, reduced
-module _ (c : Cofactor) where
-  abbrev stepped : Step
+module _ (c : lts.After-remainder tie.the-claims reads.Pre reads.Post tie.handed_clauses) where
+  abbrev stepped : lts.After-quotient tie.the-claims reads.Pre reads.Post tie.handed_clauses
   stepped = c.before.before
 
   abbrev t : ℤ
-  t = c.remainder.result
+  t = c.remainder-x.result
 
   t_is : t ≡ floor_mod (x (start stepped)) (step stepped)
-  t_is = answered (limits_x stepped) floor_mod c.remainder.ensures
+  t_is = answered (limits_x stepped) floor_mod c.remainder-x.ensures
 
 -- ---- v divided by the greatest common divisor
-module _ (c : Share) where
-  abbrev reduced : Cofactor
+module _ (c : After-quotient) where
+  abbrev reduced : lts.After-remainder tie.the-claims reads.Pre reads.Post tie.handed_clauses
   reduced = c.before.before.before
 
   abbrev origin : Start
   origin = start (stepped reduced)
 
   abbrev w : ℤ
-  w = c.quotient2.result
+  w = c.quotient.result
 
   w_is : w ≡ floor_div (v origin) (g origin)
-  w_is = answered (limits_v origin) floor_div c.quotient2.ensures
+  w_is = answered (limits_v origin) floor_div c.quotient.ensures
 
   limits_w : DivisionLimits w (step (stepped reduced))
   limits_w =
@@ -128,21 +107,21 @@ module _ (c : Share) where
       limits_step (stepped reduced) (lin (w ∷ floor_div (v origin) (g origin) ∷ []) (w_is & small) (search facts depth 20) (omega arith))
 
 -- ---- that too, reduced
-module _ (c : Rest) where
-  abbrev shared : Share
+module _ (c : After-remainder-y) where
+  abbrev shared : After-quotient
   shared = c.before
 
-  abbrev before : Step
+  abbrev before : lts.After-quotient tie.the-claims reads.Pre reads.Post tie.handed_clauses
   before = stepped (reduced shared)
 
   abbrev t' : ℤ
   t' = t (reduced shared)
 
   abbrev y : ℤ
-  y = c.remainder2.result
+  y = c.remainder-y.result
 
   y_is : y ≡ floor_mod (w shared) (step before)
-  y_is = answered (limits_w shared) floor_mod c.remainder2.ensures
+  y_is = answered (limits_w shared) floor_mod c.remainder-y.ensures
 
   t_Within : Within 2000000000 t'
   t_Within = rest_Within before (x (start before)) (t_is (reduced shared))
@@ -154,10 +133,10 @@ module _ (c : Rest) where
   limits_p = limits_step before (Within-mul t_Within y_Within)
 
   fits_t : SFits w64 t'
-  fits_t = record { sfits = (reduced shared).remainder.ok }
+  fits_t = record { sfits = (reduced shared).remainder-x.type_inv }
 
   fits_y : SFits w64 y
-  fits_y = record { sfits = c.remainder2.type-inv }
+  fits_y = record { sfits = c.remainder-y.type_inv }
 
   first_is : {r : ℤ} → r ≡ floor_mod (held (held t' *ℤ held y)) (held (step before)) →
       r ≡ floor_mod (t' *ℤ y) (step before)
@@ -165,40 +144,33 @@ module _ (c : Rest) where
       let e' : r ≡ floor_mod (held (t' *ℤ y)) (held (step before)) = rw (to_z-of_z fits_t, to_z-of_z fits_y) at e in
       answered limits_p floor_mod e'
 
-quotient-requires : tie.Need-quotient-requires
-quotient-requires c κs = asked (limits_d c.before.before)
+pub quotient-step-requires : goal.quotient-step-requires
+quotient-step-requires c = asked (limits_d (goal.at.quotient-step-requires c).Start)
 
-remainder-requires : tie.Need-remainder-requires
-remainder-requires c κs = asked (limits_x c.before)
+pub remainder-x-requires : goal.remainder-x-requires
+remainder-x-requires c = asked (limits_x (goal.at.remainder-x-requires c).After-quotient-step.before)
 
-quotient-requires-2 : tie.Need-quotient-requires-2
-quotient-requires-2 c κs = asked (limits_v (start (stepped c.before.before)))
+pub quotient-requires : goal.quotient-requires
+quotient-requires c = asked (limits_v (start (stepped (goal.at.quotient-requires c).After-remainder-x.before)))
 
-remainder-requires-2 : tie.Need-remainder-requires-2
-remainder-requires-2 c κs = asked (limits_w c)
+pub remainder-y-requires : goal.remainder-y-requires
+remainder-y-requires c = asked (limits_w c)
 
-mul-remainder : tie.Need-overflow-mul-remainder
-mul-remainder c = rw (to_z-of_z (fits_t c), to_z-of_z (fits_y c)) (fits_limit (limits_p c).dividend)
+pub overflow_mul-x : goal.overflow_mul-x
+overflow_mul-x c = rw (to_z-of_z (fits_t c), to_z-of_z (fits_y c)) (fits_limit (limits_p c).dividend)
 
-remainder-requires-3 : tie.Need-remainder-requires-3
-remainder-requires-3 c κs = rw (to_z-of_z (fits_t c), to_z-of_z (fits_y c)) (asked (limits_p c))
+pub remainder-requires : goal.remainder-requires
+remainder-requires c = rw (to_z-of_z (fits_t c), to_z-of_z (fits_y c)) (asked (limits_p c))
 
-returns : tie.Need-returns
-returns c =
-    let r = c.before in
+pub returns : goal.returns
+returns c = let r = (goal.at.returns c).After-remainder-y in
     let s = start (before r) in
-    let fits_step : SFits w64 (step (before r)) = record { sfits = (before r).quotient.type-inv } in
-    let fits_first : SFits w64 c.remainder3.result = record { sfits = c.remainder3.type-inv } in
+    let fits_step : SFits w64 (step (before r)) = record { sfits = (before r).quotient-step.type_inv } in
+    let fits_first : SFits w64 c.remainder.result = record { sfits = c.remainder.type_inv } in
     rw (to_z-of_z fits_step, to_z-of_z fits_first)
-    (every_by (factor s) (above s) (v s) (step (before r)) (t' r) (w (shared r)) (y r) c.remainder3.result s.pre.1.1
+    (every_by (factor s) (above s) (v s) (step (before r)) (t' r) (w (shared r)) (y r) c.remainder.result s.requires.gcd
     (step_is (before r))
     (t_is (reduced (shared r)))
     (w_is (shared r))
     (y_is r)
-    (first_is r c.remainder3.ensures))
-
-pub class-by-spec : {M : Type 1} → statement M
-class-by-spec =
-    tie.close
-    (tie.spec quotient-requires remainder-requires quotient-requires-2 remainder-requires-2 mul-remainder
-    remainder-requires-3 returns)
+    (first_is r c.remainder.ensures))

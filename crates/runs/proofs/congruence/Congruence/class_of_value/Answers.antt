@@ -10,11 +10,10 @@ use Rattle.ints.specs.Division.{DivisionLimits}
 use Rattle.ints.proofs.{ℤ, pos, neg_ℤ, ◌*ℤ◌, [], ◌∷◌, arith, lin, ◌&◌, facts, signed}
 use Rattle.ints.proofs.Floor.{mod_range}
 use Rattle.ints.proofs.Divides.{divides-add, divides-mul, divides_by, mod-Congruent}
-use Rattle.ints.proofs.Answers.{asked, answered}
+use Rattle.ints.proofs.Answers.{answered}
 use Rattle.runs.specs.Method.{Congruence, InReach, AllSolutions}
 use Rattle.runs.proofs.CongruenceSolutions.{limits}
-use Rattle.runs.proofs.congruence.Congruence.class_of_value.Statement.{statement}
-use Rattle.runs.proofs.congruence.Congruence.class_of_value.Tie as tie
+use Rattle.runs.proofs.congruence.Congruence.class_of_value.Goals as goal
 
 module _ (s : Congruence) (reach : InReach s) (unit : s.u ≡ pos 1) where
   limits_v : DivisionLimits s.v s.d
@@ -32,17 +31,8 @@ module _ (s : Congruence) (reach : InReach s) (unit : s.u ≡ pos 1) where
   every : AllSolutions s record { first = first; step = s.d }
   every = record { low = (mod_range s.v s.d reach.above).0; high = (mod_range s.v s.d reach.above).1; all = same }
 
-remainder-requires : tie.Need-remainder-requires
-remainder-requires c κs = let s = c.before.before in asked (limits_v s.args.self s.requires.0 s.requires.1)
-
-returns : tie.Need-returns
-returns c =
-    let m = c.before in
-    let s = m.before.before.before in
-    let x = s.args.self in
-    let r = m.remainder.result in
-    let fits-d : SFits w64 x.d = lin (x.d ∷ []) (s.requires.0.above & s.requires.0.modulus) (search signed depth 20) (omega arith) in
-    rw (to_z-of_z record { sfits = m.remainder.type-inv }, answered (limits_v x s.requires.0 s.requires.1) floor_mod m.remainder.ensures, to_z-of_z fits-d) (every x s.requires.0 s.requires.1)
-
-pub class-of-value-spec : {M : Type 1} → statement M
-class-of-value-spec = tie.close (tie.spec remainder-requires returns)
+pub returns : goal.returns
+returns c = let x = c.args.self in
+    let r = c.remainder.result in
+    let fits-d : SFits w64 x.d = lin (x.d ∷ []) (c.requires.in_reach.above & c.requires.in_reach.modulus) (search signed depth 20) (omega arith) in
+    rw (to_z-of_z {w = w64} record { sfits = c.remainder.type_inv }, answered (limits_v x c.requires.in_reach c.requires.u_value) floor_mod c.remainder.ensures, to_z-of_z fits-d) (every x c.requires.in_reach c.requires.u_value)

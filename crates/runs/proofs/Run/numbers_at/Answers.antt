@@ -1,7 +1,6 @@
 -- `Run::numbers_at` meets its contract: a stride of at most 2·10⁹ at a place below 2·10⁹.
 use mathlib.Core.Path.{◌≡◌, ap}
 use Prim.Native.Nat.{◌≤◌}
-use borrow.Author.Rules.{rules}
 use mir.Syntax.{w64}
 use mir.Val.{SFits}
 use mir.Facts.{to_z-of_z}
@@ -10,8 +9,7 @@ use Rattle.ints.proofs.Signed.{held}
 use Rattle.runs.specs.Run.{Run, OneForm}
 use Rattle.runs.specs.Method.{Class, Places, stride, numbers_at}
 use Rattle.runs.proofs.ClassOfRun.{first-Within, stride_above, stride_within}
-use Rattle.runs.proofs.Run.numbers_at.Statement.{statement}
-use Rattle.runs.proofs.Run.numbers_at.Tie as tie
+use Rattle.runs.proofs.Run.numbers_at.Goals as goal
 
 -- each number on the way, and that it fits; s is the stride
 module _ (r : Run) (i : Class) (p : OneForm r × ((1 ≤ r.many) × Places i)) (s : ℤ) (is : s ≡ stride r) where
@@ -69,17 +67,14 @@ module _ (r : Run) (i : Class) (p : OneForm r × ((1 ≤ r.many) × Places i)) (
   class_is : record { first = held (held r.first +ℤ held (held s *ℤ held i.first)); step = held (held s *ℤ held i.step) } ≡ numbers_at r i
   class_is = rw (to_z-of_z start_asked, to_z-of_z stride_asked, to_z-of_z fits_first, to_z-of_z way_asked, to_z-of_z fits_s, to_z-of_z fits_place, to_z-of_z fits_period) (ap (λ t. record { first = r.first +ℤ t *ℤ i.first; step = t *ℤ i.step }) is)
 
-mul-t4 : tie.Need-overflow-mul-t4
-mul-t4 c = let k = c.before.before in let s = k.before in way_asked s.args.self s.args.places s.requires k.stride.result k.stride.ensures
+pub overflow_mul-result : goal.overflow_mul-result
+overflow_mul-result c = way_asked c.args.self c.args.places (c.requires.one_form, (c.requires.le_many, c.requires.places)) c.stride-s.result c.stride-s.ensures
 
-add-t5 : tie.Need-overflow-add-t5
-add-t5 c = let k = c.before.before.before.before in let s = k.before in start_asked s.args.self s.args.places s.requires k.stride.result k.stride.ensures
+pub overflow_add-result : goal.overflow_add-result
+overflow_add-result c = start_asked c.args.self c.args.places (c.requires.one_form, (c.requires.le_many, c.requires.places)) c.stride-s.result c.stride-s.ensures
 
-mul-t6 : tie.Need-overflow-mul-t6
-mul-t6 c = let k = c.before.before.before.before.before.before in let s = k.before in stride_asked s.args.self s.args.places s.requires k.stride.result k.stride.ensures
+pub overflow_mul-result-2 : goal.overflow_mul-result-2
+overflow_mul-result-2 c = stride_asked c.args.self c.args.places (c.requires.one_form, (c.requires.le_many, c.requires.places)) c.stride-s.result c.stride-s.ensures
 
-returns : tie.Need-returns
-returns c = let k = c.before.before.before.before.before.before in let s = k.before in class_is s.args.self s.args.places s.requires k.stride.result k.stride.ensures
-
-pub numbers-at-spec : {M : Type 1} → statement M
-numbers-at-spec = tie.close (tie.spec (search rules) mul-t4 add-t5 mul-t6 returns)
+pub returns : goal.returns
+returns c = class_is c.args.self c.args.places (c.requires.one_form, (c.requires.le_many, c.requires.places)) c.stride-s.result c.stride-s.ensures

@@ -1,7 +1,6 @@
 -- `Run::span` meets its contract: the last number is within the range, and so is the way to it.
 use mathlib.Core.Path.{◌≡◌, refl}
 use Prim.Native.Nat.{◌≤◌}
-use borrow.Author.Rules.{rules}
 use mir.Syntax.{w64}
 use mir.Val.{SFits, to_z}
 use mir.Facts.{to_z-of_z}
@@ -9,8 +8,7 @@ use Rattle.ints.proofs.{ℤ, pos, ◌+ℤ◌, ◌-ℤ◌, ◌*ℤ◌, List, [], 
 use Rattle.runs.specs.Run.{Run, OneForm}
 use Rattle.runs.proofs.ClassOfRun.{first-Within, last_Within, sizes}
 use Rattle.ints.proofs.Signed.{cast}
-use Rattle.runs.proofs.Run.span.Statement.{statement}
-use Rattle.runs.proofs.Run.span.Tie as tie
+use Rattle.runs.proofs.Run.span.Goals as goal
 
 -- each number on the way, and that it fits
 module _ (r : Run) (p : OneForm r × (1 ≤ r.many)) where
@@ -38,26 +36,14 @@ module _ (r : Run) (p : OneForm r × (1 ≤ r.many)) where
   fits_last : SFits w64 (r.first +ℤ r.step *ℤ m)
   fits_last = lin ρ (last_Within p.0 p.1) (search signed depth 20) (omega arith)
 
-sub-t3 : tie.Need-overflow-sub-t3
-sub-t3 c = let s = c.before in rw (many_is s.args.self s.requires) (fits_m s.args.self s.requires)
+pub overflow_mul-result : goal.overflow_mul-result
+overflow_mul-result c = let r = c.args.self in
+    rw (many_is r (c.requires.one_form, c.requires.le_many), to_z-of_z (fits_step r (c.requires.one_form, c.requires.le_many)), to_z-of_z (fits_m r (c.requires.one_form, c.requires.le_many))) (fits_p r (c.requires.one_form, c.requires.le_many))
 
-mul-t4 : tie.Need-overflow-mul-t4
-mul-t4 c =
-    let s = c.before.before.before in
-    let r = s.args.self in
-    rw (many_is r s.requires, to_z-of_z (fits_step r s.requires), to_z-of_z (fits_m r s.requires)) (fits_p r s.requires)
+pub overflow_add-result : goal.overflow_add-result
+overflow_add-result c = let r = c.args.self in
+    rw (many_is r (c.requires.one_form, c.requires.le_many), to_z-of_z (fits_first r (c.requires.one_form, c.requires.le_many)), to_z-of_z (fits_step r (c.requires.one_form, c.requires.le_many)), to_z-of_z (fits_m r (c.requires.one_form, c.requires.le_many)), to_z-of_z (fits_p r (c.requires.one_form, c.requires.le_many))) (fits_last r (c.requires.one_form, c.requires.le_many))
 
-add-t5 : tie.Need-overflow-add-t5
-add-t5 c =
-    let s = c.before.before.before.before.before in
-    let r = s.args.self in
-    rw (many_is r s.requires, to_z-of_z (fits_first r s.requires), to_z-of_z (fits_step r s.requires), to_z-of_z (fits_m r s.requires), to_z-of_z (fits_p r s.requires)) (fits_last r s.requires)
-
-returns : tie.Need-returns
-returns c =
-    let s = c.before.before.before.before.before.before in
-    let r = s.args.self in
-    rw (many_is r s.requires, to_z-of_z (fits_first r s.requires), to_z-of_z (fits_step r s.requires), to_z-of_z (fits_m r s.requires), to_z-of_z (fits_p r s.requires), to_z-of_z (fits_last r s.requires)) refl
-
-pub span-spec : {M : Type 1} → statement M
-span-spec = tie.close (tie.spec (search rules) sub-t3 mul-t4 add-t5 returns)
+pub returns : goal.returns
+returns c = let r = c.args.self in
+    rw (many_is r (c.requires.one_form, c.requires.le_many), to_z-of_z (fits_first r (c.requires.one_form, c.requires.le_many)), to_z-of_z (fits_step r (c.requires.one_form, c.requires.le_many)), to_z-of_z (fits_m r (c.requires.one_form, c.requires.le_many)), to_z-of_z (fits_p r (c.requires.one_form, c.requires.le_many)), to_z-of_z (fits_last r (c.requires.one_form, c.requires.le_many))) refl

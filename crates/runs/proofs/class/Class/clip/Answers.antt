@@ -18,18 +18,11 @@ use Rattle.runs.specs.Run.{Run, empty}
 use Rattle.runs.specs.Method.{Class, Interval, Clippable, lowest_in, steps, progression, clip}
 use Rattle.runs.proofs.ClassInInterval.{steps_nonneg}
 use Rattle.ints.proofs.Answers.{asked, answered, fits_limit}
-use Rattle.runs.proofs.class.Class.clip.Statement.{statement}
+use Rattle.runs.proofs.class.Class.clip.Goals.{Else-to-lowest, Start}
+use Rattle.runs.proofs.class.Class.clip.Lts as lts
 use Rattle.runs.proofs.class.Class.clip.Tie as tie
 use Rattle.runs.proofs.class.Class.clip.Reads as reads
-use Rattle.runs.proofs.class.Class.clip.Lts as lts
-use Rattle.ints.proofs.quotient.Reads as quotient-reads
-use Rattle.ints.proofs.remainder.Reads as remainder-reads
-use Rattle.runs.proofs.Run.empty.Reads as empty-reads
-use Rattle.runs.proofs.class.progression.Reads as progression-reads
-
--- what the functions that are called ask, and tell
-abbrev claims : lts.Claims
-claims = (remainder-reads.Asked, remainder-reads.Learnt, empty-reads.Asked, empty-reads.Learnt, quotient-reads.Asked, quotient-reads.Learnt, progression-reads.Asked, progression-reads.Learnt)
+use Rattle.runs.proofs.class.Class.clip.Goals as goal
 
 -- each number on the way, and that it fits
 module _ (c : Class) (i : Interval) (fair : Clippable c i) where
@@ -44,12 +37,6 @@ module _ (c : Class) (i : Interval) (fair : Clippable c i) where
 
   limits_apart : DivisionLimits apart c.step
   limits_apart = record { dividend = fair.distance; divisor = fair.step; not_zero = lin (c.step ∷ []) fair.moves (search facts depth 20) (omega arith) }
-
-  apart_asked : SFits w64 (held c.first -ℤ held i.low)
-  apart_asked = rw (to_z-of_z fits_first, to_z-of_z fits_low) (fits_limit fair.distance)
-
-  limits_asked : DivisionLimits (held (held c.first -ℤ held i.low)) (held c.step)
-  limits_asked = rw (to_z-of_z fits_first, to_z-of_z fits_low) (asked limits_apart)
 
   -- m is what the remainder gave
   module _ (m : ℤ) (e : m ≡ floor_mod (held (held c.first -ℤ held i.low)) (held c.step)) where
@@ -146,66 +133,43 @@ module _ (c : Class) (i : Interval) (fair : Clippable c i) where
               whole : progression L (held c.step) (nat_abs (held n)) ≡ progression (lowest_in c i) c.step (nat_abs (steps c i))
               whole = rw (to_z-of_z fits_n, to_z-of_z (fits_limit fair.step), n_is, L_is) refl
 
-sub-remainder : tie.Need-overflow-sub-remainder
-sub-remainder c = let s = c.before.before.before.before in apart_asked s.args.self s.args.to s.requires
+pub overflow_add-lowest : goal.overflow_add-lowest
+overflow_add-lowest c = lowest_asked c.args.self c.args.to c.requires c.remainder.result c.remainder.ensures
 
-remainder-requires : tie.Need-remainder-requires
-remainder-requires c κs = let s = c.before.before.before.before.before in limits_asked s.args.self s.args.to s.requires
-
-add-lowest : tie.Need-overflow-add-lowest
-add-lowest c =
-    let k = c.before.before in
-    let s = k.before.before.before.before.before.before in
-    lowest_asked s.args.self s.args.to s.requires k.remainder.result k.remainder.ensures
-
-returns : tie.Need-returns
-returns c =
-    let k = c.before.before.before.before.before.before in
-    let s = k.before.before.before.before.before.before in
-    none s.args.self s.args.to s.requires k.remainder.result k.remainder.ensures
-    (record { sfits = c.before.before.struct-told5.given.1.0.1 }) c.empty.result c.empty.ensures c.before.if1.true
+pub returns-then-to-lowest : goal.returns-then-to-lowest
+returns-then-to-lowest c = none c.args.self c.args.to c.requires c.remainder.result c.remainder.ensures
+    (search rules) c.empty.result c.empty.ensures c.if-to-lowest.true
 
 -- past the test
-module _ (p : lts.Else1 claims reads.Pre reads.Post) where
-  abbrev k : lts.After-remainder claims reads.Pre reads.Post
+module _ (p : lts.Else1 tie.the-claims reads.Pre reads.Post) where
+  abbrev k : lts.After-remainder tie.the-claims reads.Pre reads.Post
   k = p.before.before.before.before.before
 
-  abbrev s : lts.Start claims reads.Pre reads.Post
+  abbrev s : Start
   s = k.before.before.before.before.before.before
 
   fits : SFits w64 s.args.to.high
-  fits = record { sfits = p.before.struct-told5.given.1.0.1 }
+  fits = search rules
 
-sub-quotient : tie.Need-overflow-sub-quotient
-sub-quotient c =
-    let p = c.before.before in
-    rest_asked (s p).args.self (s p).args.to (s p).requires (k p).remainder.result (k p).remainder.ensures (fits p) p.if1.false
+pub overflow_sub-to : goal.overflow_sub-to
+overflow_sub-to c = let p = (goal.at.overflow_sub-to c).Else-to-lowest.before in
+    rest_asked (s p).args.self (s p).args.to (s p).requires (k p).remainder.result (k p).remainder.ensures (fits p) c.if-to-lowest.false
 
-quotient-requires : tie.Need-quotient-requires
-quotient-requires c κs =
-    let p = c.before.before.before in
-    quotient_asked (s p).args.self (s p).args.to (s p).requires (k p).remainder.result (k p).remainder.ensures (fits p) p.if1.false
+pub quotient-steps-requires : goal.quotient-steps-requires
+quotient-steps-requires c = let p = (goal.at.quotient-steps-requires c).Else-to-lowest.before in
+    quotient_asked (s p).args.self (s p).args.to (s p).requires (k p).remainder.result (k p).remainder.ensures (fits p) c.if-to-lowest.false
 
-cast-progression : tie.Need-overflow-cast-progression
-cast-progression c =
-    let p = c.before.before.before.before in
-    cast_asked (s p).args.self (s p).args.to (s p).requires (k p).remainder.result (k p).remainder.ensures (fits p) p.if1.false
-    c.quotient.result c.quotient.ensures
+pub overflow_cast-steps : goal.overflow_cast-steps
+overflow_cast-steps c = let p = (goal.at.overflow_cast-steps c).Else-to-lowest.before in
+    cast_asked (s p).args.self (s p).args.to (s p).requires (k p).remainder.result (k p).remainder.ensures (fits p) c.if-to-lowest.false
+    c.quotient-steps.result c.quotient-steps.ensures
 
-progression-requires : tie.Need-progression-requires
-progression-requires c κs =
-    let p = c.before.before.before.before.before in
-    small_asked (s p).args.self (s p).args.to (s p).requires (k p).remainder.result (k p).remainder.ensures (fits p) p.if1.false
-    c.before.quotient.result c.before.quotient.ensures
+pub progression-requires : goal.progression-requires
+progression-requires c = let p = (goal.at.progression-requires c).Else-to-lowest.before in
+    small_asked (s p).args.self (s p).args.to (s p).requires (k p).remainder.result (k p).remainder.ensures (fits p) c.if-to-lowest.false
+    c.quotient-steps.result c.quotient-steps.ensures
 
-returns-2 : tie.Need-returns-2
-returns-2 c =
-    let p = c.before.before.before.before.before.before in
-    some (s p).args.self (s p).args.to (s p).requires (k p).remainder.result (k p).remainder.ensures (fits p) p.if1.false
-    c.before.before.quotient.result c.before.before.quotient.ensures c.progression.result c.progression.ensures
-
-pub clip-spec : {M : Type 1} → statement M
-clip-spec =
-    tie.close
-    (tie.spec sub-remainder remainder-requires add-lowest (search rules) returns sub-quotient quotient-requires
-    cast-progression progression-requires returns-2)
+pub returns : goal.returns
+returns c = let p = (goal.at.returns c).Else-to-lowest.before in
+    some (s p).args.self (s p).args.to (s p).requires (k p).remainder.result (k p).remainder.ensures (fits p) c.if-to-lowest.false
+    c.quotient-steps.result c.quotient-steps.ensures c.progression.result c.progression.ensures

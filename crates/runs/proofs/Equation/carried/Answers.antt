@@ -1,7 +1,6 @@
 -- `Equation::carried` meets its contract: it is `carry_by` of Method.antt, call by call.
 use mathlib.Core.Path.{◌≡◌, sym, ◌∙◌, ap, ap₂}
 use mathlib.Core.Bool.{Bool, true, false}
-use borrow.Author.Rules.{rules}
 use mir.Syntax.{w64}
 use mir.Val.{SFits, to_z}
 use mir.Facts.{to_z-of_z}
@@ -10,7 +9,7 @@ use Rattle.ints.specs.Floor.{floor_div}
 use Rattle.ints.specs.Division.{DivisionLimits, limit}
 use Rattle.ints.proofs.{ℤ, pos, ◌-ℤ◌, ◌*ℤ◌, ◌≤ℤ◌, lt_z, [], ◌∷◌, arith, lin, ◌&◌, facts, signed}
 use Rattle.ints.proofs.Signed.{held, cast}
-use Rattle.ints.proofs.Answers.{asked, answered, fits_limit}
+use Rattle.ints.proofs.Answers.{asked, answered}
 use Rattle.runs.specs.declared.congruence.Solutions.TheVariants.{Every}
 use Rattle.runs.specs.Run.{Run, empty}
 use Rattle.runs.specs.Workings.{Equation}
@@ -18,19 +17,11 @@ use Rattle.runs.specs.Method.{Class, Countable, Carriable, AllSolutions, places_
 use Rattle.runs.proofs.ClassOfRun.{sizes}
 use Rattle.runs.proofs.SolutionPeriod.{period_above}
 use Rattle.runs.proofs.CarryMethod.{carry_places, last_places, more_low, more_high, way_Within, lowest_Within, carry_Countable}
-use Rattle.runs.proofs.Equation.carried.Statement.{statement}
+use Rattle.runs.proofs.Equation.carried.Goals.{Else-last-j, Start}
+use Rattle.runs.proofs.Equation.carried.Lts as lts
 use Rattle.runs.proofs.Equation.carried.Tie as tie
 use Rattle.runs.proofs.Equation.carried.Reads as reads
-use Rattle.runs.proofs.Equation.carried.Lts as lts
-use Rattle.ints.proofs.quotient.Reads as quotient-reads
-use Rattle.runs.proofs.Equation.partners.Reads as partners-reads
-use Rattle.runs.proofs.Equation.rising.Reads as rising-reads
-use Rattle.runs.proofs.Run.empty.Reads as empty-reads
-use Rattle.runs.proofs.class.Class.counted_run.Reads as counted-run-reads
-
--- what the functions that are called ask, and tell
-abbrev claims : lts.Claims
-claims = (empty-reads.Asked, empty-reads.Learnt, quotient-reads.Asked, quotient-reads.Learnt, partners-reads.Asked, partners-reads.Learnt, rising-reads.Asked, rising-reads.Learnt, counted-run-reads.Asked, counted-run-reads.Learnt)
+use Rattle.runs.proofs.Equation.carried.Goals as goal
 
 -- each number on the way, and that it fits
 module _ {e : Equation} {q : Run} {j : Class} (p : Carriable e q × AllSolutions (places_with_partner e q) j) where
@@ -42,9 +33,6 @@ module _ {e : Equation} {q : Run} {j : Class} (p : Carriable e q × AllSolutions
 
   fits_place : SFits w64 j.first
   fits_place = let k = carry_places p.0 p.1 in lin (j.first ∷ j.step ∷ []) (k.low & k.high & k.small) (search signed depth 20) (omega arith)
-
-  last_asked : SFits w64 (to_z w64 q.many -ℤ pos 1)
-  last_asked = rw many_is fits_last
 
   abbrev last : ℤ
   last = held (to_z w64 q.many -ℤ pos 1)
@@ -76,9 +64,6 @@ module _ {e : Equation} {q : Run} {j : Class} (p : Carriable e q × AllSolutions
     rest_is : last -ℤ held j.first ≡ rest
     rest_is = ap₂ ◌-ℤ◌ last_is (to_z-of_z fits_place)
 
-    rest_asked : SFits w64 (last -ℤ held j.first)
-    rest_asked = rw rest_is (fits_limit limits_rest.dividend)
-
     limits_asked : DivisionLimits (held (last -ℤ held j.first)) (held j.step)
     limits_asked = rw rest_is (asked limits_rest)
 
@@ -109,52 +94,25 @@ module _ {e : Equation} {q : Run} {j : Class} (p : Carriable e q × AllSolutions
           result_is r is = rw (test_is test) (is ∙ ap₂ counted_run there held_n)
 
 -- past the test
-module _ (c : lts.Else1 claims reads.Pre reads.Post) where
-  abbrev s : lts.Start claims reads.Pre reads.Post
+module _ (c : lts.Else1 tie.the-claims reads.Pre reads.Post tie.handed_clauses) where
+  abbrev s : Start
   s = c.before.before.before.before
 
-sub-last : tie.Need-overflow-sub-last
-sub-last c = last_asked c.before.requires
+pub returns-then-last-j : goal.returns-then-last-j
+returns-then-last-j c = past (c.requires.carriable, c.requires.all_solutions) c.if-last-j.true c.empty.result c.empty.ensures
 
-returns : tie.Need-returns
-returns c =
-    let t = c.before in
-    past t.before.before.before.before.requires t.if1.true c.empty.result c.empty.ensures
+pub quotient-more-requires : goal.quotient-more-requires
+quotient-more-requires c = let t = (goal.at.quotient-more-requires c).Else-last-j.before in limits_asked ((s t).requires.carriable, (s t).requires.all_solutions) c.if-last-j.false
 
-sub-quotient : tie.Need-overflow-sub-quotient
-sub-quotient c = let t = c.before.before in rest_asked (s t).requires t.if1.false
+pub rising-requires : goal.rising-requires
+rising-requires c = let t = (goal.at.rising-requires c).Else-last-j.before in
+    let both = rising_asked ((s t).requires.carriable, (s t).requires.all_solutions) c.if-last-j.false c.quotient-more.result c.quotient-more.ensures c.partners.result c.partners.ensures in record { within = both.0; within_2 = both.1 }
 
-quotient-requires : tie.Need-quotient-requires
-quotient-requires c κs = let t = c.before.before.before in limits_asked (s t).requires t.if1.false
+pub counted_run-requires : goal.counted_run-requires
+counted_run-requires c = let t = (goal.at.counted_run-requires c).Else-last-j.before in
+    Countable-asked ((s t).requires.carriable, (s t).requires.all_solutions) c.if-last-j.false c.quotient-more.result c.quotient-more.ensures c.partners.result c.partners.ensures c.rising.result c.rising.ensures
 
-partners-requires : tie.Need-partners-requires
-partners-requires c κs =
-    let t = c.before.before.before.before in
-    ((s t).requires.0, ((s t).requires.1, room (s t).requires t.if1.false))
-
-rising-requires : tie.Need-rising-requires
-rising-requires c κs =
-    let n = c.before in
-    let t = n.before.before.before.before in
-    rising_asked (s t).requires t.if1.false n.quotient.result n.quotient.ensures c.partners.result c.partners.ensures
-
-counted-run-requires : tie.Need-counted-run-requires
-counted-run-requires c κs =
-    let p = c.before in
-    let n = p.before in
-    let t = n.before.before.before.before in
-    Countable-asked (s t).requires t.if1.false n.quotient.result n.quotient.ensures p.partners.result p.partners.ensures c.rising.result c.rising.ensures
-
-returns-2 : tie.Need-returns-2
-returns-2 c =
-    let u = c.before in
-    let p = u.before in
-    let n = p.before in
-    let t = n.before.before.before.before in
-    result_is (s t).requires t.if1.false n.quotient.result n.quotient.ensures p.partners.result p.partners.ensures u.rising.result u.rising.ensures
-    c.counted-run.result c.counted-run.ensures
-
-pub carried-spec : {M : Type 1} → statement M
-carried-spec =
-    tie.close
-    (tie.spec (search rules) sub-last (search rules) returns sub-quotient quotient-requires partners-requires rising-requires counted-run-requires returns-2)
+pub returns : goal.returns
+returns c = let t = (goal.at.returns c).Else-last-j.before in
+    result_is ((s t).requires.carriable, (s t).requires.all_solutions) c.if-last-j.false c.quotient-more.result c.quotient-more.ensures c.partners.result c.partners.ensures c.rising.result c.rising.ensures
+    c.counted_run.result c.counted_run.ensures

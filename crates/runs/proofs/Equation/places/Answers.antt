@@ -1,7 +1,6 @@
 -- `Equation::places` meets its contract.
 use mathlib.Core.Path.{◌≡◌, ◌∙◌, ap, ap₂}
 use Prim.Native.Nat.{◌≤◌}
-use borrow.Author.Rules.{rules}
 use mir.Syntax.{w64}
 use mir.Val.{SFits}
 use mir.Facts.{to_z-of_z}
@@ -14,8 +13,7 @@ use Rattle.runs.specs.Method.{stride, partner_value}
 use Rattle.runs.proofs.ClassOfRun.{first-Within, stride_small}
 use Rattle.runs.proofs.CarryWidths.{fits_a, fits_b, fits_q}
 use Rattle.runs.proofs.CongruenceSolutions.{same_congruence}
-use Rattle.runs.proofs.Equation.places.Statement.{statement}
-use Rattle.runs.proofs.Equation.places.Tie as tie
+use Rattle.runs.proofs.Equation.places.Goals as goal
 
 module _ (e : Equation) (q : Run) (p : CarryLimits e × (OneForm q × (1 ≤ q.many))) (t : ℤ) (is : t ≡ stride q) where
   small : Within 2000000000 t
@@ -36,33 +34,14 @@ module _ (e : Equation) (q : Run) (p : CarryLimits e × (OneForm q × (1 ≤ q.m
   first : Within bound q.first
   first = first-Within p.1.0 p.1.1
 
-  first_asked : Within bound (held q.first)
-  first_asked = rw (to_z-of_z (fits_q p.0 first)) first
-
   v_is : (v : ℤ) → SFits w64 v → v ≡ partner_value e (held q.first) → held v ≡ partner_value e q.first
   v_is v fits d = to_z-of_z fits ∙ d ∙ ap (partner_value e) (to_z-of_z (fits_q p.0 first))
 
-mul-t4 : tie.Need-overflow-mul-t4
-mul-t4 c =
-    let k = c.before.before in
-    let s = k.before in
-    u_asked s.args.self s.args.q s.requires k.stride.result k.stride.ensures
+pub overflow_mul-result : goal.overflow_mul-result
+overflow_mul-result c = u_asked c.args.self c.args.q (c.requires.carry_limits, (c.requires.one_form, c.requires.le_many)) c.stride.result c.stride.ensures
 
-partner-value-requires : tie.Need-partner-value-requires
-partner-value-requires c κs =
-    let k = c.before.before.before in
-    let s = k.before in
-    (s.requires.0, first_asked s.args.self s.args.q s.requires k.stride.result k.stride.ensures)
-
-returns : tie.Need-returns
-returns c =
-    let v = c.before in
-    let k = v.before.before.before.before in
-    let s = k.before in
-    same_congruence
-    (u_is s.args.self s.args.q s.requires k.stride.result k.stride.ensures)
-    (v_is s.args.self s.args.q s.requires k.stride.result k.stride.ensures v.partner-value.result record { sfits = v.partner-value.type-inv } v.partner-value.ensures)
-    (to_z-of_z (fits_a s.requires.0))
-
-pub places-spec : {M : Type 1} → statement M
-places-spec = tie.close (tie.spec (search rules) mul-t4 partner-value-requires returns)
+pub returns : goal.returns
+returns c = same_congruence
+    (u_is c.args.self c.args.q (c.requires.carry_limits, (c.requires.one_form, c.requires.le_many)) c.stride.result c.stride.ensures)
+    (v_is c.args.self c.args.q (c.requires.carry_limits, (c.requires.one_form, c.requires.le_many)) c.stride.result c.stride.ensures c.partner_value.result record { sfits = c.partner_value.type_inv } c.partner_value.ensures)
+    (to_z-of_z (fits_a c.requires.carry_limits))

@@ -1,7 +1,6 @@
 -- `Equation::step_of` meets its contract.
 use mathlib.Core.Path.{◌≡◌, refl, ◌∙◌, ap}
 use Prim.Native.Nat.{ℕ}
-use borrow.Author.Rules.{rules}
 use mir.Syntax.{w64}
 use mir.Val.{SFits, to_z}
 use mir.Facts.{to_z-of_z}
@@ -19,8 +18,7 @@ use Rattle.runs.proofs.SolutionPeriod.{period_above, period_within}
 use Rattle.runs.proofs.CarryMethod.{product_small, parts_above}
 use Rattle.ints.proofs.Signed.{held, cast}
 use Rattle.runs.proofs.CarryWidths.{fits_b}
-use Rattle.runs.proofs.Equation.step_of.Statement.{statement}
-use Rattle.runs.proofs.Equation.step_of.Tie as tie
+use Rattle.runs.proofs.Equation.step_of.Goals as goal
 
 -- n is the size of b, t the stride and g a divided by the period
 module _ {e : Equation} {q : Run} {j : Class} (p : Carriable e q × AllSolutions (places_with_partner e q) j) where
@@ -73,32 +71,15 @@ module _ {e : Equation} {q : Run} {j : Class} (p : Carriable e q × AllSolutions
             let h' : r ≡ floor_div (held (pos n *ℤ t)) (held g) = rw (n_cast, to_z-of_z fits_t) at h in
             to_z-of_z fits ∙ answered limits_g floor_div h' ∙ rw (n_is, t_is, g_is) refl
 
-cast-quotient : tie.Need-overflow-cast-quotient
-cast-quotient c =
-    let w = n_small c.before.before.requires c.size.result c.size.ensures in
-    lin (pos c.size.result ∷ []) w (search signed depth 20) (omega arith)
+pub overflow_mul-size : goal.overflow_mul-size
+overflow_mul-size c = product_asked (c.requires.carriable, c.requires.all_solutions) c.size.result c.size.ensures c.stride.result c.stride.ensures
 
-mul-quotient : tie.Need-overflow-mul-quotient
-mul-quotient c =
-    let n = c.before in
-    product_asked n.before.before.requires n.size.result n.size.ensures c.stride.result c.stride.ensures
+pub quotient-requires : goal.quotient-requires
+quotient-requires c = asked (limits_a (c.requires.carriable, c.requires.all_solutions))
 
-quotient-requires : tie.Need-quotient-requires
-quotient-requires c κs = asked (limits_a c.before.before.before.before.before.requires)
+pub quotient-requires-2 : goal.quotient-requires-2
+quotient-requires-2 c = limits_asked (c.requires.carriable, c.requires.all_solutions) c.size.result c.size.ensures c.stride.result c.stride.ensures c.quotient.result c.quotient.ensures
 
-quotient-requires-2 : tie.Need-quotient-requires-2
-quotient-requires-2 c κs =
-    let t = c.before.before.before in
-    let n = t.before in
-    limits_asked n.before.before.requires n.size.result n.size.ensures t.stride.result t.stride.ensures c.quotient.result c.quotient.ensures
-
-returns : tie.Need-returns
-returns c =
-    let g = c.before in
-    let t = g.before.before.before in
-    let n = t.before in
-    result_is n.before.before.requires n.size.result n.size.ensures t.stride.result t.stride.ensures g.quotient.result g.quotient.ensures
-    c.quotient2.result record { sfits = c.quotient2.type-inv } c.quotient2.ensures
-
-pub step-of-spec : {M : Type 1} → statement M
-step-of-spec = tie.close (tie.spec (search rules) cast-quotient (search rules) mul-quotient quotient-requires quotient-requires-2 returns)
+pub returns : goal.returns
+returns c = result_is (c.requires.carriable, c.requires.all_solutions) c.size.result c.size.ensures c.stride.result c.stride.ensures c.quotient.result c.quotient.ensures
+    c.quotient-2.result record { sfits = c.quotient-2.type_inv } c.quotient-2.ensures

@@ -14,15 +14,11 @@ use Rattle.runs.specs.Run.{Run, OneForm, is_one_form, bound}
 use Rattle.runs.specs.Method.{span}
 use Rattle.runs.proofs.ClassOfRun.{first-Within, last_Within, sizes}
 use Rattle.runs.proofs.Refusals.{when, OneForm-iff, rising_form}
-use Rattle.runs.proofs.Run.is_rising.Statement.{statement}
+use Rattle.runs.proofs.Run.is_rising.Goals.{Start, Then-is_within}
+use Rattle.runs.proofs.Run.is_rising.Lts as lts
 use Rattle.runs.proofs.Run.is_rising.Tie as tie
 use Rattle.runs.proofs.Run.is_rising.Reads as reads
-use Rattle.runs.proofs.Run.is_rising.Lts as lts
-use Rattle.ints.proofs.is_within.Reads as is-within-reads
-
--- what the functions that are called ask, and tell
-abbrev claims : lts.Claims
-claims = (is-within-reads.Asked, is-within-reads.Learnt)
+use Rattle.runs.proofs.Run.is_rising.Goals as goal
 
 -- not in the one form
 not : (r : Run) → (OneForm r → ⊥) → false ≡ is_one_form r
@@ -31,9 +27,6 @@ not r h = when (OneForm-iff r) (λ e. absurd (false≢true e), λ o. absurd (h o
 module _ (r : Run) (two : 2 ≤ r.many) (fits_first : SFits w64 r.first) (fits_step : SFits w64 r.step) (many_fits : r.many < 4294967296) where
   one : 1 ≤ r.many
   one = omega arith
-
-  flat : lt_z (held r.step) (pos 1) ≡ true → false ≡ is_one_form r
-  flat t = not r (λ o. lin (r.step ∷ []) (o.rises two & t) (search (signed, fits_step) depth 20) (omega arith))
 
   steep : lt_z (pos 2000000000) (held r.step) ≡ true → false ≡ is_one_form r
   steep t = not r (λ o. lin (r.step ∷ []) ((sizes o one).step & t) (search (signed, fits_step) depth 20) (omega arith))
@@ -76,12 +69,6 @@ module _ (r : Run) (two : 2 ≤ r.many) (fits_first : SFits w64 r.first) (fits_s
     fits_last : SFits w64 (r.first +ℤ r.step *ℤ m)
     fits_last = lin ρ (way & there) (search signed depth 20) (omega arith)
 
-    m_asked : SFits w64 (to_z w64 r.many -ℤ pos 1)
-    m_asked = rw many_is fits_m
-
-    way_asked : SFits w64 (held r.step *ℤ held (to_z w64 r.many -ℤ pos 1))
-    way_asked = rw (many_is, to_z-of_z fits_step, to_z-of_z fits_m) fits_way
-
     last_asked : SFits w64 (held r.first +ℤ held (held r.step *ℤ held (to_z w64 r.many -ℤ pos 1)))
     last_asked = rw (many_is, to_z-of_z fits_first, to_z-of_z fits_step, to_z-of_z fits_m, to_z-of_z fits_way) fits_last
 
@@ -95,65 +82,42 @@ module _ (r : Run) (two : 2 ≤ r.many) (fits_first : SFits w64 r.first) (fits_s
     )
 
 -- the arguments, at the first test
-module _ (c : lts.After-struct-told claims reads.Pre reads.Post) where
-  abbrev s : lts.Start claims reads.Pre reads.Post
+module _ (c : lts.After-struct_told tie.the-claims reads.Pre reads.Post) where
+  abbrev s : Start
   s = c.before.before
 
   first_fits : SFits w64 s.args.self.first
-  first_fits = record { sfits = c.struct_told.given.0.1 }
+  first_fits = search rules
 
   step_fits : SFits w64 s.args.self.step
-  step_fits = record { sfits = c.struct_told.given.1.0.1 }
+  step_fits = search rules
 
   many_fits : s.args.self.many < 4294967296
-  many_fits = c.struct_told.given.1.1.0.1
+  many_fits = (search rules)
 
-returns : tie.Need-returns
-returns c = let k = c.before in flat (s k).args.self (s k).requires (first_fits k) (step_fits k) (many_fits k) c.if1.true
-
-returns-2 : tie.Need-returns-2
-returns-2 c = let k = c.before.before.before.before in steep (s k).args.self (s k).requires (first_fits k) (step_fits k) (many_fits k) c.if2.true
+pub returns-then-self-gt2000000000 : goal.returns-then-self-gt2000000000
+returns-then-self-gt2000000000 c = let k = c.before.before.before.before in steep (s k).args.self (s k).requires (first_fits k) (step_fits k) (many_fits k) c.if-self-gt2000000000.true
 
 -- past the third test
-module _ (c : lts.Then3 claims reads.Pre reads.Post) where
-  abbrev e : lts.Else2 claims reads.Pre reads.Post
+module _ (c : lts.Then3 tie.the-claims reads.Pre reads.Post) where
+  abbrev e : lts.Else2 tie.the-claims reads.Pre reads.Post
   e = c.before.before.before
 
-  abbrev k : lts.After-struct-told claims reads.Pre reads.Post
+  abbrev k : lts.After-struct_told tie.the-claims reads.Pre reads.Post
   k = e.before.before.before.before
 
   inside : is_within bound (s k).args.self.first ≡ true
-  inside = told (is_within bound) (first_fits k) c.before.is_Within.ensures c.if3.true
+  inside = told (is_within bound) (first_fits k) c.is_within.ensures c.if-is_within.true
 
-sub-is-within : tie.Need-overflow-sub-is-within
-sub-is-within c =
-    let t = c.before in
-    m_asked (s (k t)).args.self (s (k t)).pre (first_fits (k t)) (step_fits (k t)) (many_fits (k t)) (e t).before.before.before.if1.false (e t).if2.false (inside t)
+pub overflow_add-self : goal.overflow_add-self
+overflow_add-self c = let t = (goal.at.overflow_add-self c).Then-is_within.before in
+    last_asked (s (k t)).args.self (s (k t)).requires (first_fits (k t)) (step_fits (k t)) (many_fits (k t)) (e t).if-self-lt1.false (e t).if-self-gt2000000000.false (inside t)
 
-mul-is-within : tie.Need-overflow-mul-is-within
-mul-is-within c =
-    let t = c.before.before.before in
-    way_asked (s (k t)).args.self (s (k t)).pre (first_fits (k t)) (step_fits (k t)) (many_fits (k t)) (e t).before.before.before.if1.false (e t).if2.false (inside t)
+pub returns-then-is_within : goal.returns-then-is_within
+returns-then-is_within c = let t = (goal.at.returns-then-is_within c).Then-is_within.before in
+    result_is (s (k t)).args.self (s (k t)).requires (first_fits (k t)) (step_fits (k t)) (many_fits (k t)) (e t).if-self-lt1.false (e t).if-self-gt2000000000.false (inside t)
+    c.is_within-then-is_within.result c.is_within-then-is_within.ensures
 
-add-is-within : tie.Need-overflow-add-is-within
-add-is-within c =
-    let t = c.before.before.before.before.before in
-    last_asked (s (k t)).args.self (s (k t)).pre (first_fits (k t)) (step_fits (k t)) (many_fits (k t)) (e t).before.before.before.if1.false (e t).if2.false (inside t)
-
-returns-3 : tie.Need-returns-3
-returns-3 c =
-    let t = c.before.before.before.before.before.before in
-    result_is (s (k t)).args.self (s (k t)).pre (first_fits (k t)) (step_fits (k t)) (many_fits (k t)) (e t).before.before.before.if1.false (e t).if2.false (inside t)
-    c.is-within2.result c.is-within2.ensures
-
-returns-4 : tie.Need-returns-4
-returns-4 c =
-    let l = c.before.before.before in
-    let k = l.before.before.before.before in
-    outside (s k).args.self (s k).requires (first_fits k) (step_fits k) (many_fits k) (told (is_within bound) (first_fits k) c.before.is_Within.ensures c.if3.false)
-
-pub is-rising-spec : {M : Type 1} → statement M
-is-rising-spec =
-    tie.close
-    (tie.spec returns returns-2 (search rules) (search rules) sub-is-within mul-is-within add-is-within (search rules)
-    returns-3 returns-4)
+pub returns : goal.returns
+returns c = let k = c.before.before.before.before.before.before.before in
+    outside (s k).args.self (s k).requires (first_fits k) (step_fits k) (many_fits k) (told (is_within bound) (first_fits k) c.is_within.ensures c.if-is_within.false)

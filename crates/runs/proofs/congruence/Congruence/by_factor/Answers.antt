@@ -1,0 +1,73 @@
+-- `Congruence::by_factor` meets its contract: there are solutions just where the greatest common divisor divides v.
+use mathlib.Core.Path.{◌≡◌}
+use mathlib.Core.Bool.{true, false}
+use mir.Syntax.{w64}
+use mir.Val.{SFits}
+use mir.Facts.{to_z-of_z}
+use Rattle.ints.specs.Floor.{floor_mod}
+use Rattle.ints.specs.Division.{DivisionLimits}
+use Rattle.ints.proofs.{ℤ, pos, lt_z, ◌≤ℤ◌, ◌<ℤ◌, [], ◌∷◌, arith, lin, ◌&◌, signed}
+use Rattle.ints.proofs.Signed.{held}
+use Rattle.euclid.specs.Factor.{IsFactor}
+use Rattle.ints.proofs.Answers.{asked, answered}
+use Rattle.runs.proofs.CongruenceSolutions.{limits_value, nothing, no_rest}
+use Rattle.runs.proofs.congruence.Congruence.by_factor.Goals.{After-of-f, After-remainder}
+use Rattle.runs.proofs.congruence.Congruence.by_factor.Lts as lts
+use Rattle.runs.proofs.congruence.Congruence.by_factor.Tie as tie
+use Rattle.runs.proofs.congruence.Congruence.by_factor.Reads as reads
+use Rattle.runs.proofs.congruence.Congruence.by_factor.Goals as goal
+
+module _ (c : lts.After-of tie.the-claims reads.Pre reads.Post tie.handed_clauses) where
+  abbrev u : ℤ
+  u = c.args.self.u
+
+  abbrev v : ℤ
+  v = c.args.self.v
+
+  abbrev d : ℤ
+  d = c.args.self.d
+
+  abbrev g : ℤ
+  g = c.of-f.result.gcd
+
+  factor : IsFactor u d g c.of-f.result.cofactor
+  factor =
+      let reach = c.requires in
+      let fits_u : SFits w64 u = lin (u ∷ []) reach.factor (search signed depth 20) (omega arith) in
+      let fits-d : SFits w64 d = lin (d ∷ []) (reach.above & reach.modulus) (search signed depth 20) (omega arith) in
+      rw (to_z-of_z fits_u, to_z-of_z fits-d) at c.of-f.ensures.factor
+
+  limits_v : DivisionLimits v g
+  limits_v = limits_value c.requires factor
+
+-- what the test tells of the remainder
+module _ (c : lts.After-remainder tie.the-claims reads.Pre reads.Post tie.handed_clauses) where
+  abbrev r : ℤ
+  r = c.remainder.result
+
+  abbrev rest : ℤ
+  rest = floor_mod (v c.before.before.before) (g c.before.before.before)
+
+  rest_is : r ≡ rest
+  rest_is = answered (limits_v c.before.before.before) floor_mod c.remainder.ensures
+
+  fits_r : SFits w64 r
+  fits_r = record { sfits = c.remainder.type_inv }
+
+  some : lt_z (pos 0) (held r) ≡ true → pos 0 <ℤ rest
+  some t = lin (r ∷ rest ∷ []) (rest_is & t) (search (signed, fits_r) depth 20) (omega arith)
+
+  none : lt_z (pos 0) (held r) ≡ false → rest ≤ℤ pos 0
+  none t = lin (r ∷ rest ∷ []) (rest_is & t) (search (signed, fits_r) depth 20) (omega arith)
+
+pub remainder-requires : goal.remainder-requires
+remainder-requires c = asked (limits_v (goal.at.remainder-requires c).After-of-f.before)
+
+pub class_by-requires : goal.class_by-requires
+class_by-requires c = let o = (goal.at.class_by-requires c).After-of-f.before in
+    let reach = c.requires in
+    record { in_reach = reach; factor = factor o; gcd = no_rest (factor o) reach.above (v o) (none (goal.at.class_by-requires c).After-remainder.before c.if-remainder-gt0.false) }
+
+pub returns-then-remainder-gt0 : goal.returns-then-remainder-gt0
+returns-then-remainder-gt0 c = let o = (goal.at.returns-then-remainder-gt0 c).After-of-f.before in
+    nothing (factor o) c.requires.above (v o) (some (goal.at.returns-then-remainder-gt0 c).After-remainder.before c.if-remainder-gt0.true)
