@@ -36,7 +36,7 @@ use Rattle.jobs.specs.Demands.{IfLent, KeptFrom, worth_on, number_on, numbers_on
 use Rattle.jobs.proofs.Faults.{found_iff, sound_iff}
 use Rattle.jobs.proofs.Lawful.{lawful_named}
 use Rattle.jobs.proofs.AmendedJob.{lawful_amended}
-use Rattle.bytes.proofs.TwosComplement.{Within-fits}
+use Rattle.little_endian.proofs.TwosComplement.{Within-fits}
 use Rattle.jobs.proofs.SheetFields.{number_back, worth_back, sheet_of_back}
 use Rattle.jobs.proofs.MapFields.{map_on}
 use Rattle.jobs.proofs.AreasAfter.{if_lent, planned-ne-refused, no_refusal, Mapped, if_planned, if_no_fit, if_Mapped, if_refused, past_sheet, past_map}

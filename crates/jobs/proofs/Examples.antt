@@ -10,7 +10,7 @@ use Rattle.ints.proofs.{ℤ, pos}
 use Rattle.lists.specs.Members.{◌∈◌, here, there}
 use Rattle.lists.specs.Table.{table}
 use Rattle.lists.proofs.Table.{table_at}
-use Rattle.bytes.specs.LittleEndian.{unsigned}
+use Rattle.little_endian.specs.LittleEndian.{unsigned}
 use Rattle.jobs.specs.Job.{job_of}
 use Rattle.jobs.specs.Solution.{solutions}
 use Rattle.jobs.specs.Component.{IsLead, Numbered, lowest, leads, component}
@@ -26,6 +26,7 @@ in_two : {A : Type 0} {xs : List A} {a b : A} → xs ≡ a ∷ b ∷ [] → (x :
 in_two {A} {xs} {a} {b} q x = (λ m. out (rw q at m), λ e. rw q (into e))
   where
     out : x ∈ a ∷ b ∷ [] → (x ≡ a) ⊎ (x ≡ b)
+    out (there (there x9)) = elim x9 [ ]
     out (here e) = inl e
     out (there (here e)) = inr e
 

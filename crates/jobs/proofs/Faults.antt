@@ -181,6 +181,7 @@ module _ (c : Call) where
   Alike d r = Broken (g d) d r ↔ Broken (g c) c r
 
   of_row : (k : ℕ) (r : Reason) → r ∈ equation_checks k → Alike bare r × Alike unlent r
+  of_row k r (there (there x8)) = elim x8 [ ]
   of_row k r (here e) = rw e (same, same)
   of_row k r (there (here e)) = rw e (same, same)
 

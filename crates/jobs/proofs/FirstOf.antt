@@ -43,6 +43,7 @@ module _ {A : Type 0} {P : A → Type 0} (d : (x : A) → Dec (P x)) where
 
   -- where there is none, P holds of no member
   pub none_holds : (xs : List A) → first_where d xs ≡ none → (x : A) → x ∈ xs → ¬ P x
+  none_holds [] e x m = elim m [ ]
   none_holds (y ∷ ys) e x m = go (d y) (none_holds ys) m
     where
       go : Dec (P y) → (first_where d ys ≡ none → (x : A) → x ∈ ys → ¬ P x) → x ∈ y ∷ ys → ¬ P x

@@ -11,7 +11,7 @@ use lib.ListN.{length, take, drop, take-append-drop, length-append}
 use lib.Seq.{take_all, length-take-le, take-append-le}
 use Rattle.reasons.specs.declared.Reason.{Reason}
 use Rattle.reasons.specs.declared.Reason.TheVariants.{ShortJob, WrongMark, TooMany, WrongHeader, AmendmentsLength}
-use Rattle.bytes.specs.LittleEndian.{unsigned}
+use Rattle.little_endian.specs.LittleEndian.{unsigned}
 use Rattle.jobs.specs.Call.{Areas, Call, lending_nothing, call_of}
 use Rattle.jobs.specs.Job.{variable_count, equation_count}
 use Rattle.jobs.specs.Amendments.{amendment_count}
@@ -21,7 +21,7 @@ use Rattle.jobs.specs.Faults.{breaks?, first_broken}
 use Rattle.jobs.specs.Verdict.{verdict}
 use Rattle.jobs.specs.AreasAfter.{areas_after}
 use Rattle.jobs.proofs.FirstOf.{first_here, first_later, first_stays}
-use Rattle.bytes.proofs.LittleEndian.{unsigned_first}
+use Rattle.little_endian.proofs.LittleEndian.{unsigned_first}
 use Rattle.jobs.proofs.Faults.{fault_of_job, fault_length}
 use Rattle.jobs.proofs.Outcomes.{as_broken}
 

@@ -10,14 +10,14 @@ use Rattle.lists.specs.Table.{up_to}
 use Rattle.lists.proofs.Maps.{flat_map_same}
 use Rattle.lists.proofs.Places.{length-flat_map}
 use Rattle.lists.proofs.Table.{in-up_to, table_at, length-up_to}
-use Rattle.bytes.specs.LittleEndian.{unsigned, u16, bytes_of}
-use Rattle.bytes.proofs.LittleEndian.{unsigned-bytes_of}
-use Rattle.bytes.proofs.Report.{length_report, in_header as header-in, in_first, in_second}
+use Rattle.little_endian.specs.LittleEndian.{unsigned, u16, bytes_of}
+use Rattle.little_endian.proofs.LittleEndian.{unsigned-bytes_of}
+use Rattle.little_endian.proofs.Report.{length_report, in_header as header-in, in_first, in_second}
 use Rattle.jobs.specs.Job.{Job, equation}
 use Rattle.jobs.specs.Lawful.{LawfulJob}
 use Rattle.jobs.specs.NormalForm.{Binary, home}
 use Rattle.jobs.specs.Component.{Joins, component_count, component}
-use Rattle.jobs.specs.Structure.{Structure, degree, kind, structure}
+use Rattle.jobs.specs.Structure.{Structure, kind, structure}
 use Rattle.jobs.specs.MapLayout.{map_header, map_row, map_rows, map_of}
 use Rattle.jobs.specs.Demands.{map_group_on, named_on, kind_on, MapOn}
 use Rattle.jobs.proofs.Components.{length_leads, component_below}

@@ -14,7 +14,7 @@ use Rattle.lists.specs.Table.{table}
 use Rattle.lists.proofs.Rising.{Rising-Distinct, same_length}
 use Rattle.lists.proofs.Table.{in-table, Rising-table, length-table, table_at}
 use Rattle.lists.proofs.Lexicographic.{Lower-asym}
-use Rattle.bytes.specs.LittleEndian.{unsigned}
+use Rattle.little_endian.specs.LittleEndian.{unsigned}
 use Rattle.jobs.specs.Call.{Areas, Call, areas_of, call_of}
 use Rattle.jobs.specs.Job.{Job, variable}
 use Rattle.jobs.specs.Amendments.{amended}

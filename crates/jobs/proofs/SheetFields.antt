@@ -14,15 +14,15 @@ use Rattle.lists.specs.Table.{up_to}
 use Rattle.lists.proofs.Maps.{flat_map_same}
 use Rattle.lists.proofs.Places.{length-flat_map}
 use Rattle.lists.proofs.Table.{in-up_to, table_at, length-up_to}
-use Rattle.bytes.specs.LittleEndian.{unsigned, i64, bytes_of, signed_bytes}
+use Rattle.little_endian.specs.LittleEndian.{unsigned, i64, bytes_of, signed_bytes}
 use Rattle.jobs.specs.Job.{Job}
 use Rattle.jobs.specs.Component.{component_count, component}
 use Rattle.jobs.specs.Findings.{Findings, findings}
 use Rattle.jobs.specs.SheetLayout.{sheet_header, sheet_variable, sheet_group, sheet_variables, sheet_groups, sheet_of}
 use Rattle.jobs.specs.Demands.{worth_on, number_on, base_on, step_on, LaidOut}
-use Rattle.bytes.proofs.LittleEndian.{unsigned-bytes_of}
-use Rattle.bytes.proofs.Report.{length_report, in_header as header-in, in_first, in_second}
-use Rattle.bytes.proofs.TwosComplement.{FitsBytes, Within-fits, signed_field}
+use Rattle.little_endian.proofs.LittleEndian.{unsigned-bytes_of}
+use Rattle.little_endian.proofs.Report.{length_report, in_header as header-in, in_first, in_second}
+use Rattle.little_endian.proofs.TwosComplement.{FitsBytes, Within-fits, signed_field}
 use Rattle.jobs.proofs.Components.{length_leads, component_below}
 use Rattle.jobs.proofs.Numbering.{Numbered-by}
 

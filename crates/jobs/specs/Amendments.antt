@@ -2,7 +2,7 @@
 use Rattle.std.specs.Prelude.{Bool, not, ◌&&◌, List, [], ◌∷◌, ℕ, ◌+◌, ◌*◌, ◌/◌, eqb, length, get_or, pos}
 use Rattle.lists.specs.Keep.{keep, every}
 use Rattle.lists.specs.Table.{table, up_to}
-use Rattle.bytes.specs.LittleEndian.{u16, u32, i32}
+use Rattle.little_endian.specs.LittleEndian.{u16, u32, i32}
 use Rattle.jobs.specs.Call.{Call}
 use Rattle.jobs.specs.Job.{Variable, Job, job_of, variable}
 use Rattle.jobs.specs.Bounds.{Bounds, with_bounds}

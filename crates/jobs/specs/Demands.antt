@@ -3,7 +3,7 @@
 use Rattle.std.specs.Prelude.{◌≡◌, ◌↔◌, ◌⊎◌, Bool, false, cond, List, ℕ, ◌+◌, ◌*◌, ◌≤◌, ◌<◌, eqb, length, take, drop, ℤ, pos, ◌+ℤ◌, ◌*ℤ◌, ◌≤ℤ◌, ◌<ℤ◌}
 use Rattle.std.proofs.Math.Option.{Option, none, some}
 use Rattle.lists.specs.Table.{table}
-use Rattle.bytes.specs.LittleEndian.{unsigned, u16, u32, i32, i64}
+use Rattle.little_endian.specs.LittleEndian.{unsigned, u16, u32, i32, i64}
 use Rattle.jobs.specs.Call.{Areas, Call}
 use Rattle.jobs.specs.Job.{Job, variable, equation}
 use Rattle.jobs.specs.Amendments.{job_in}

@@ -8,7 +8,7 @@ use Rattle.jobs.specs.declared.Checked.{Checked}
 use Rattle.jobs.specs.declared.Checked.TheVariants.{Accepted, Refused}
 use Rattle.ints.specs.Within.{Within}
 use Rattle.runs.specs.Run.{bound}
-use Rattle.bytes.specs.LittleEndian.{u32}
+use Rattle.little_endian.specs.LittleEndian.{u32}
 use Rattle.jobs.specs.Decide.{tested, below?, at_most?, equal?, within?, by, both, either, not?, list?, some?, first_where}
 use Rattle.jobs.specs.Job.{Variable, Equation, job_of, variable_count, equation_count, equation_row_at, variable, equation}
 use Rattle.jobs.specs.Bounds.{Bounds, Bounded}

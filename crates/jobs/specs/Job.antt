@@ -3,7 +3,7 @@
 use Rattle.std.specs.Prelude.{◌≡◌, List, ℕ, ◌+◌, ◌*◌, ◌≤◌, length, get_or, pos}
 use Rattle.lists.specs.Table.{table}
 use Rattle.runs.specs.declared.Equation.{Equation as Form}
-use Rattle.bytes.specs.LittleEndian.{u16, i32, i64}
+use Rattle.little_endian.specs.LittleEndian.{u16, i32, i64}
 -- the program's structs: whole numbers in ℤ, numbers of variables in ℕ
 pub use Rattle.jobs.specs.declared.Variable.{Variable}
 pub use Rattle.jobs.specs.declared.Equation.{Equation}

@@ -2,7 +2,7 @@
 use mathlib.Core.List.{List, [], ◌∷◌, ◌++◌, flat_map}
 use Rattle.std.specs.Prelude.{ℕ, ◌+◌, ◌*◌}
 use Rattle.lists.specs.Table.{table, up_to}
-use Rattle.bytes.specs.LittleEndian.{bytes_of}
+use Rattle.little_endian.specs.LittleEndian.{bytes_of}
 use Rattle.jobs.specs.Structure.{Structure}
 
 -- `MAP1`

@@ -2,7 +2,7 @@
 use Rattle.std.specs.Prelude.{◌≡◌, refl, List, [], ◌∷◌, ◌++◌, map, ℕ, ◌+◌, length, take, ℤ, pos}
 use Rattle.std.proofs.Math.Option.{Option, some, none}
 use Rattle.lists.specs.Table.{table}
-use Rattle.bytes.specs.LittleEndian.{unsigned, u16, u32}
+use Rattle.little_endian.specs.LittleEndian.{unsigned, u16, u32}
 use Rattle.jobs.specs.Call.{Areas, Call, areas_of, call_of}
 use Rattle.jobs.specs.Job.{job_of, equation}
 use Rattle.jobs.specs.NormalForm.{home}

@@ -9,7 +9,7 @@ use Rattle.ints.specs.Within.{Within}
 use Rattle.lists.specs.Members.{◌∈◌}
 use Rattle.lists.specs.Table.{table, up_to}
 use Rattle.runs.specs.Run.{bound}
-use Rattle.bytes.specs.LittleEndian.{unsigned, u32}
+use Rattle.little_endian.specs.LittleEndian.{unsigned, u32}
 use Rattle.jobs.specs.SheetOffsets.{group_rows_at}
 use Rattle.jobs.specs.MapOffsets.{map_length}
 use Rattle.jobs.specs.Component.{Numbered}

@@ -2,7 +2,7 @@
 use mathlib.Core.List.{List, [], ◌∷◌, ◌++◌, flat_map}
 use Rattle.std.specs.Prelude.{ℕ, ◌+◌, ◌*◌, length, ℤ}
 use Rattle.lists.specs.Table.{table, up_to}
-use Rattle.bytes.specs.LittleEndian.{bytes_of, signed_bytes}
+use Rattle.little_endian.specs.LittleEndian.{bytes_of, signed_bytes}
 use Rattle.runs.specs.declared.Run.{Run}
 use Rattle.jobs.specs.Findings.{Findings}
 

@@ -4,7 +4,7 @@ use Rattle.std.specs.Prelude.{◌≡◌, refl, List, [], ◌∷◌, ◌++◌, ma
 use Rattle.std.proofs.Math.Option.{none}
 use Rattle.lists.specs.Table.{table}
 use Rattle.lists.specs.Lexicographic.{now, later}
-use Rattle.bytes.specs.LittleEndian.{u16, u32}
+use Rattle.little_endian.specs.LittleEndian.{u16, u32}
 use Rattle.jobs.specs.Call.{Areas, Call, areas_of, call_of}
 use Rattle.jobs.specs.Job.{Job, job_of}
 use Rattle.jobs.specs.TieBreak.{Earlier, earliest_first}

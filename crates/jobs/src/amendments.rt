@@ -23,11 +23,11 @@ impl Amendment {
     {
         let at = 20 * t;
         Amendment {
-            serial: bytes::u32_at(amendments, at),
-            supersedes: bytes::u32_at(amendments, at + 4),
-            variable: bytes::u16_at(amendments, at + 8) as usize,
-            low: bytes::i32_at(amendments, at + 12),
-            high: bytes::i32_at(amendments, at + 16),
+            serial: little_endian::u32_at(amendments, at),
+            supersedes: little_endian::u32_at(amendments, at + 4),
+            variable: little_endian::u16_at(amendments, at + 8) as usize,
+            low: little_endian::i32_at(amendments, at + 12),
+            high: little_endian::i32_at(amendments, at + 16),
         }
     }
 
@@ -84,7 +84,7 @@ fn check_zeros(amendments: &[u8], k: usize) -> Checked
         if t == k {
             break Checked::Accepted;
         }
-        if bytes::u16_at(amendments, 20 * t + 10) != 0 {
+        if little_endian::u16_at(amendments, 20 * t + 10) != 0 {
             break Checked::Refused(Reason::AmendmentZero(t as u16));
         }
         t += 1;
@@ -161,7 +161,7 @@ fn place(amendments: &[u8], n: usize, serial: u64, k: usize) -> usize
     let mut high: usize = k;
     while low < high {
         let middle = low + (high - low) / 2;
-        if bytes::u32_at(amendments, 20 * middle) < serial {
+        if little_endian::u32_at(amendments, 20 * middle) < serial {
             low = middle + 1;
         } else {
             high = middle;
@@ -185,7 +185,7 @@ fn check_twice(amendments: &[u8], n: usize, k: usize) -> Checked
         if t == k {
             break Checked::Accepted;
         }
-        let i = bytes::u16_at(amendments, 20 * t + 8) as usize;
+        let i = little_endian::u16_at(amendments, 20 * t + 8) as usize;
         if !superseded[t] {
             if taken[i] {
                 break Checked::Refused(Reason::AmendmentTwice(t as u16));
@@ -206,7 +206,7 @@ fn superseded(amendments: &[u8], n: usize, k: usize) -> [bool; 512]
     let mut superseded: [bool; 512] = [false; 512];
     let mut t: usize = 0;
     while t < k {
-        let serial = bytes::u32_at(amendments, 20 * t + 4);
+        let serial = little_endian::u32_at(amendments, 20 * t + 4);
         if serial != 0 {
             let u = place(amendments, n, serial, k);
             superseded[u] = true;
@@ -236,22 +236,20 @@ fn check_ranges(amendments: &[u8], k: usize) -> Checked
 
 /// Puts the bounds of each sheet over those of its variable, row by row. Of sheets that the check accepts the last for a variable is the
 /// one in force.
-pub fn overlay(amendments: &[u8], bounds: [Bounds; 256], n: usize) -> [Bounds; 256]
+pub fn overlay(amendments: &[u8], bounds: &mut [Bounds; 256], n: usize)
     requires n_bound { n ≤ 256 }
     requires referenced { Referenced n (amendments_of amendments.now) (amendment_count amendments.now) }
-    ensures { Overlaid (amendments_of amendments.now) bounds result }
+    ensures { Overlaid (amendments_of amendments.now) bounds.old bounds.new }
 {
     let k = amendments.len() / 20;
-    let mut after = bounds;
     let mut t: usize = 0;
     while t < k {
         let a = Amendment::read(amendments, t);
         let i = a.variable;
-        after[i] = Bounds {
+        bounds[i] = Bounds {
             low: a.low,
             high: a.high,
         };
         t += 1;
     }
-    after
 }

@@ -15,7 +15,7 @@ pub fn variable_count(job: &[u8]) -> usize
     requires { 24 ≤ length job.now }
     ensures { result ≡ variable_count job.now }
 {
-    bytes::u16_at(job, 4) as usize
+    little_endian::u16_at(job, 4) as usize
 }
 
 /// How many equations, document 01's m.
@@ -23,7 +23,7 @@ pub fn equation_count(job: &[u8]) -> usize
     requires { 24 ≤ length job.now }
     ensures { result ≡ equation_count job.now }
 {
-    bytes::u16_at(job, 6) as usize
+    little_endian::u16_at(job, 6) as usize
 }
 
 /// The first fault of the header, of reasons 1 to 4.
@@ -79,16 +79,16 @@ fn is_laid_out(job: &[u8], n: usize, m: usize) -> bool
 {
     let equations = 24 + 12 * n;
     let whole = equations + 20 * m;
-    if bytes::u32_at(job, 8) != 24 {
+    if little_endian::u32_at(job, 8) != 24 {
         return false;
     }
-    if bytes::u32_at(job, 12) != equations as u64 {
+    if little_endian::u32_at(job, 12) != equations as u64 {
         return false;
     }
-    if bytes::u32_at(job, 16) != whole as u64 {
+    if little_endian::u32_at(job, 16) != whole as u64 {
         return false;
     }
-    if bytes::u32_at(job, 20) != 0 {
+    if little_endian::u32_at(job, 20) != 0 {
         return false;
     }
     job.len() == whole

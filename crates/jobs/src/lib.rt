@@ -1,6 +1,7 @@
 //! Jobs and their amendments: their bytes, what they mean, what is demanded of a plan, and the job check.
 //!
 //! Read `specs/Lib.antt` for the definitions, then this file, then the modules from the bottom up.
+#![tactic(auto)]
 
 ghost use Rattle.std.specs.Prelude.{◌≡◌};
 ghost use mathlib.Core.List.{[], flat_map};
@@ -24,7 +25,7 @@ pub mod header;
 pub mod amendments;
 
 /// A variable's row, document 01's count row: its bounds and its weight.
-#[derive(Drop)]
+#[derive(Clone, Copy)]
 pub struct Variable {
     pub low: i64,
     pub high: i64,
@@ -32,7 +33,7 @@ pub struct Variable {
 }
 
 /// An equation's row, document 01's tie: a·left + b·right = c, where left and right are numbers of variables.
-#[derive(Drop)]
+#[derive(Clone, Copy)]
 pub struct Equation {
     pub left: usize,
     pub right: usize,
@@ -42,7 +43,7 @@ pub struct Equation {
 }
 
 /// A variable's bounds. They come to the planner apart from the job's bytes, so that the same job can be planned with others.
-#[derive(Drop)]
+#[derive(Clone, Copy)]
 pub struct Bounds {
     pub low: i64,
     pub high: i64,
@@ -50,7 +51,7 @@ pub struct Bounds {
 
 /// An amendment sheet: its number, that of the sheet it supersedes or 0, the variable it is for, and the bounds that replace those in the
 /// variable's row while it is in force.
-#[derive(Drop)]
+#[derive(Clone, Copy)]
 pub struct Amendment {
     pub serial: u64,
     pub supersedes: u64,
@@ -60,7 +61,7 @@ pub struct Amendment {
 }
 
 /// What the job check answers.
-#[derive(Drop)]
+#[derive(Clone, Copy)]
 pub enum Checked {
     Accepted,
     Refused(Reason),

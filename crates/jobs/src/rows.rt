@@ -15,9 +15,9 @@ impl Variable {
     {
         let at = 24 + 12 * i;
         Variable {
-            low: bytes::i32_at(job, at),
-            high: bytes::i32_at(job, at + 4),
-            weight: bytes::i32_at(job, at + 8),
+            low: little_endian::i32_at(job, at),
+            high: little_endian::i32_at(job, at + 4),
+            weight: little_endian::i32_at(job, at + 8),
         }
     }
 
@@ -44,11 +44,11 @@ impl Equation {
     {
         let at = 24 + 12 * n + 20 * k;
         Equation {
-            left: bytes::u16_at(job, at) as usize,
-            right: bytes::u16_at(job, at + 2) as usize,
-            a: bytes::i32_at(job, at + 4),
-            b: bytes::i32_at(job, at + 8),
-            c: bytes::i64_at(job, at + 12),
+            left: little_endian::u16_at(job, at) as usize,
+            right: little_endian::u16_at(job, at + 2) as usize,
+            a: little_endian::i32_at(job, at + 4),
+            b: little_endian::i32_at(job, at + 8),
+            c: little_endian::i64_at(job, at + 12),
         }
     }
 

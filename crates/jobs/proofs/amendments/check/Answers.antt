@@ -18,13 +18,14 @@ use Rattle.jobs.specs.ReasonTable.{MisSized, Misreferenced, Twice, amendment_che
 use Rattle.jobs.specs.Decide.{first_where}
 use Rattle.jobs.specs.Faults.{breaks?, fault_of}
 use Rattle.jobs.specs.FirstRow.{FirstRow}
-use Rattle.jobs.specs.AmendmentPasses.{Referenced}
 use Rattle.jobs.proofs.FirstOf.{first_here, first_later, first_past, first_stays}
 use Rattle.jobs.proofs.Faults.{pass, from_twice, from_references, from_zeros}
 use Rattle.jobs.proofs.FirstRow.{pass_fault}
-use borrow.Author.Rules.{rules}
-use Rattle.jobs.proofs.amendments.check.Statement.{statement}
+use Rattle.jobs.proofs.amendments.check.Goals.{After-check_zeros-zeros, After-variable_count-n, Start}
+use Rattle.jobs.proofs.amendments.check.Lts as lts
 use Rattle.jobs.proofs.amendments.check.Tie as tie
+use Rattle.jobs.proofs.amendments.check.Reads as reads
+use Rattle.jobs.proofs.amendments.check.Goals as goal
 
 module _ (s a : List ℕ) where
   abbrev call : Call
@@ -81,8 +82,8 @@ module _ (s a : List ℕ) where
               ∙ pass_fault call AmendmentRange (λ t. ¬ Bounded (amendment_bounds (amendment xs t))) k (λ t. (λ h. h, λ h. h)) g of-ranges)
 
 -- with the number of variables read
-module _ (c : tie.After-variable-count) where
-  abbrev start : tie.Start
+module _ (c : lts.After-variable_count tie.the-claims reads.Pre reads.Post tie.handed_clauses) where
+  abbrev start : Start
   start = c.before.before.before
 
   abbrev job : List ℕ
@@ -91,78 +92,50 @@ module _ (c : tie.After-variable-count) where
   abbrev amendments : List ℕ
   amendments = start.args.amendments.now
 
-  n_is : c.variable-count.result ≡ variable_count job
-  n_is = c.variable-count.ensures
+  n_is : c.variable_count-n.result ≡ variable_count job
+  n_is = c.variable_count-n.ensures
 
-  n_most : c.variable-count.result ≤ 256
-  n_most = omega (arith, n_is, start.pre.variables)
-
-  of_job : (r : Checked) → FirstRow AmendmentReference (Misreferenced c.variable-count.result (amendments_of amendments)) (amendment_count amendments) r → FirstRow AmendmentReference (Misreferenced (variable_count job) (amendments_of amendments)) (amendment_count amendments) r
+  of_job : (r : Checked) → FirstRow AmendmentReference (Misreferenced c.variable_count-n.result (amendments_of amendments)) (amendment_count amendments) r → FirstRow AmendmentReference (Misreferenced (variable_count job) (amendments_of amendments)) (amendment_count amendments) r
   of_job r f = subst (λ n. FirstRow AmendmentReference (Misreferenced n (amendments_of amendments)) (amendment_count amendments) r) n_is f
 
-returns : tie.Need-returns
-returns c = let v = c.before in of_length (job v) (amendments v) (inl c.if1.true)
+pub returns-then-amendments-k : goal.returns-then-amendments-k
+returns-then-amendments-k c = let v = (goal.at.returns-then-amendments-k c).After-variable_count-n.before in of_length (job v) (amendments v) (inl c.if-amendments-k.true)
 
-returns-2 : tie.Need-returns-2
-returns-2 c = let v = c.before.before in of_length (job v) (amendments v) (inr c.if2.true)
+pub returns-then-k-gt512 : goal.returns-then-k-gt512
+returns-then-k-gt512 c = let v = (goal.at.returns-then-k-gt512 c).After-variable_count-n.before in of_length (job v) (amendments v) (inr c.if-k-gt512.true)
 
 -- past each pass
-module _ (c : tie.After-check-zeros) where
-  abbrev at_n : tie.After-variable-count
+module _ (c : lts.After-check_zeros tie.the-claims reads.Pre reads.Post tie.handed_clauses) where
+  abbrev at_n : lts.After-variable_count tie.the-claims reads.Pre reads.Post tie.handed_clauses
   at_n = c.before.before.before
 
   abbrev sized : length (amendments at_n) ≡ 20 * amendment_count (amendments at_n)
-  sized = c.before.before.if1.false
+  sized = c.if-amendments-k.false
 
   abbrev most : amendment_count (amendments at_n) ≤ 512
-  most = c.before.if2.false
+  most = c.if-k-gt512.false
 
-returns-3 : tie.Need-returns-3
-returns-3 c =
-    let z = c.before.before.before in
+pub returns-in-Refused : goal.returns-in-Refused
+returns-in-Refused c = let z = (goal.at.returns-in-Refused c).After-check_zeros-zeros.before in
     let v = at_n z in
-    zeros_refused (job v) (amendments v) (sized z) (most z) z.check-zeros.result z.check-zeros.ensures c.before.zeros.given.1
+    zeros_refused (job v) (amendments v) (sized z) (most z) c.check_zeros-zeros.result c.check_zeros-zeros.ensures c.in-Refused.is
 
-returns-4 : tie.Need-returns-4
-returns-4 c =
-    let r = c.before.before.before in
-    let z = r.before.before.before in
+pub returns-in-Refused-references : goal.returns-in-Refused-references
+returns-in-Refused-references c = let z = (goal.at.returns-in-Refused-references c).After-check_zeros-zeros.before in
     let v = at_n z in
-    references_refused (job v) (amendments v) (sized z) (most z) z.check-zeros.result z.check-zeros.ensures r.before.enum_told.given.1
-    r.check-references.result (of_job v r.check-references.result r.check-references.ensures) c.before.references.given.1
+    references_refused (job v) (amendments v) (sized z) (most z) c.check_zeros-zeros.result c.check_zeros-zeros.ensures c.in-Accepted.is
+    c.check_references-references.result (of_job v c.check_references-references.result c.check_references-references.ensures) c.in-Refused-references.is
 
--- all sheets keep reason 12's rule
-kept : {n k : ℕ} {ys : List Amendment} (r : Checked) → FirstRow AmendmentReference (Misreferenced n ys) k r → r ≡ Accepted → Referenced n ys k
-kept {n} {k} {ys} r f e = record { at = subst (FirstRow AmendmentReference (Misreferenced n ys) k) e f }
-
-check-twice-requires : tie.Need-check-twice-requires
-check-twice-requires c κs =
-    let r = c.before.before in
-    let z = r.before.before.before in
-    (search rules, (most z, (n_most (at_n z), kept r.check-references.result r.check-references.ensures c.enum-told2.given.1)))
-
-returns-5 : tie.Need-returns-5
-returns-5 c =
-    let t = c.before.before.before in
-    let r = t.before.before.before in
-    let z = r.before.before.before in
+pub returns-in-Refused-twice : goal.returns-in-Refused-twice
+returns-in-Refused-twice c = let z = (goal.at.returns-in-Refused-twice c).After-check_zeros-zeros.before in
     let v = at_n z in
-    twice_refused (job v) (amendments v) (sized z) (most z) z.check-zeros.result z.check-zeros.ensures r.before.enum_told.given.1
-    r.check-references.result (of_job v r.check-references.result r.check-references.ensures) t.before.enum-told2.given.1
-    t.check-twice.result t.check-twice.ensures c.before.twice.given.1
+    twice_refused (job v) (amendments v) (sized z) (most z) c.check_zeros-zeros.result c.check_zeros-zeros.ensures c.in-Accepted.is
+    c.check_references-references.result (of_job v c.check_references-references.result c.check_references-references.ensures) c.in-Accepted-references.is
+    c.check_twice-twice.result c.check_twice-twice.ensures c.in-Refused-twice.is
 
-returns-6 : tie.Need-returns-6
-returns-6 c =
-    let t = c.before.before.before in
-    let r = t.before.before.before in
-    let z = r.before.before.before in
+pub returns : goal.returns
+returns c = let z = (goal.at.returns c).After-check_zeros-zeros.before in
     let v = at_n z in
-    by_ranges (job v) (amendments v) (sized z) (most z) z.check-zeros.result z.check-zeros.ensures r.before.enum_told.given.1
-    r.check-references.result (of_job v r.check-references.result r.check-references.ensures) t.before.enum-told2.given.1
-    t.check-twice.result t.check-twice.ensures c.before.enum-told3.given.1 c.check-ranges.result c.check-ranges.ensures
-
-pub check-spec : {M : Type 1} → statement M
-check-spec =
-    tie.close
-    (tie.spec (search rules) (search rules) returns returns-2 (search rules) (search rules) returns-3 (search rules) (search rules) (search rules)
-    returns-4 (search rules) check-twice-requires (search rules) returns-5 (search rules) (search rules) returns-6)
+    by_ranges (job v) (amendments v) (sized z) (most z) c.check_zeros-zeros.result c.check_zeros-zeros.ensures c.in-Accepted.is
+    c.check_references-references.result (of_job v c.check_references-references.result c.check_references-references.ensures) c.in-Accepted-references.is
+    c.check_twice-twice.result c.check_twice-twice.ensures c.in-Accepted-twice.is c.check_ranges.result c.check_ranges.ensures

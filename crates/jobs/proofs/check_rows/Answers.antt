@@ -14,9 +14,7 @@ use Rattle.jobs.specs.Decide.{first_where}
 use Rattle.jobs.specs.ReasonTable.{equation_checks, row_checks}
 use Rattle.jobs.specs.Faults.{breaks?, fault_of}
 use Rattle.jobs.proofs.FirstOf.{first_past, first_stays}
-use borrow.Author.Rules.{rules}
-use Rattle.jobs.proofs.check_rows.Statement.{statement}
-use Rattle.jobs.proofs.check_rows.Tie as tie
+use Rattle.jobs.proofs.check_rows.Goals as goal
 
 -- the fault of the rows, from what is answered of the variables' rows, and then of the equations' rows
 module _ (s : List ℕ) (n m : ℕ) (n_is : n ≡ variable_count s) (m_is : m ≡ equation_count s) where
@@ -37,22 +35,10 @@ module _ (s : List ℕ) (n m : ℕ) (n_is : n ≡ variable_count s) (m_is : m �
   unfolding row_checks
   accepted h e q = q ∙ ap (λ m. first (flat_map equation_checks (up_to m))) m_is ∙ sym (first_past (breaks? (lending_nothing s [])) variables _ (of_variables h e))
 
-returns : tie.Need-returns
-returns c =
-    let a = c.before.before.before in
-    let b = a.before.before in
-    refused b.before.before.args.job.now b.variable-count.result a.before.equation-count.result b.variable-count.ensures a.before.equation-count.ensures
-    a.check-variables.ensures c.before.of-variables.given.1
+pub returns-in-Refused : goal.returns-in-Refused
+returns-in-Refused c = refused c.args.job.now c.variable_count-n.result c.equation_count-m.result c.variable_count-n.ensures c.equation_count-m.ensures
+    c.check_variables-of_variables.ensures c.in-Refused.is
 
-returns-2 : tie.Need-returns-2
-returns-2 c =
-    let a = c.before.before.before in
-    let b = a.before.before in
-    accepted b.before.before.args.job.now b.variable-count.result a.before.equation-count.result b.variable-count.ensures a.before.equation-count.ensures
-    a.check-variables.ensures c.before.enum_told.given.1 c.check-equations.ensures
-
-pub check-rows-spec : {M : Type 1} → statement M
-check-rows-spec =
-    tie.close
-    (tie.spec (search rules) (search rules) (search rules) (search rules) (search rules) (search rules) returns
-    returns-2)
+pub returns-in-Accepted : goal.returns-in-Accepted
+returns-in-Accepted c = accepted c.args.job.now c.variable_count-n.result c.equation_count-m.result c.variable_count-n.ensures c.equation_count-m.ensures
+    c.check_variables-of_variables.ensures c.in-Accepted.is c.check_equations.ensures

@@ -1,0 +1,17 @@
+-- `check_equations` meets its contract: past each row that keeps its rules, what is left of the checks gives the same first fault.
+use mathlib.Core.Path.{◌≡◌}
+use mathlib.Core.List.{[], flat_map}
+use Prim.Native.Nat.{◌-◌, ◌≤◌}
+use Rattle.lists.specs.Table.{up_to}
+use Rattle.jobs.specs.ReasonTable.{equation_checks}
+use Rattle.jobs.specs.Call.{lending_nothing}
+use Rattle.jobs.specs.Decide.{first_where}
+use Rattle.jobs.specs.Faults.{breaks?}
+use Rattle.jobs.proofs.RowChecks.{of_equations}
+use Rattle.jobs.proofs.check_equations.Given as goal
+
+abbrev pub invariant-loop-k : goal.invariant-loop-k
+invariant-loop-k l = (l.k ≤ l.m) × (first_where (breaks? (lending_nothing l.job [])) (flat_map equation_checks (up_to l.m)) ≡ of_equations l.job l.k l.m)
+
+abbrev pub decreases-loop-k : goal.decreases-loop-k
+decreases-loop-k l = l.m - l.k
