@@ -7,7 +7,7 @@ use Prim.Native.Nat.{ℕ, ◌-◌, ◌≤◌, ◌<◌}
 use native.Mathlib.Decide.{ℕ_discrete, dec_lt}
 use lib.ListN.{length, get_or}
 use Rattle.ints.proofs.{ℤ, pos, ◌+ℤ◌, ◌*ℤ◌, ◌≤ℤ◌, ◌<ℤ◌, le_z, List, [], ◌∷◌, arith, lin₀, facts, le_or_lt}
-use Rattle.ints.proofs.Order.{le_true, le_false, le_antisym, pos_below}
+use Rattle.ints.proofs.Order.{le_antisym, pos_below}
 use Rattle.lists.specs.Table.{table}
 use Rattle.lists.specs.Lexicographic.{Lower}
 use Rattle.lists.specs.Best.{greater, earlier}
@@ -23,6 +23,7 @@ use Rattle.jobs.proofs.Solutions.{in-solutions, Rising-solutions, best_only}
 use Rattle.jobs.proofs.PlaceOfBest.{chosen_at}
 use Rattle.families.proofs.LinearFunctions.{line_up, line_down, line_level}
 use Rattle.families.specs.Family.{member, choice}
+use Rattle.families.proofs.Choice.{choice_up, choice_down, choice_level}
 
 -- ---- the objective along a family
 weighed : (w b s k : ℤ) → w *ℤ (b +ℤ s *ℤ k) ≡ w *ℤ b +ℤ w *ℤ s *ℤ k
@@ -54,12 +55,6 @@ objective-member c k =
         ∙ weighed (w i) (number (base c) i) (number (step c) i) (pos k)
 
 -- ---- the choice
-choice_up : (g : ℤ) (n : ℕ) → pos 0 ≤ℤ g → choice g n ≡ n - 1
-choice_up g n h = rw ((le_true (pos 0) g).1 h)
-
-choice_down : (g : ℤ) (n : ℕ) → g <ℤ pos 0 → choice g n ≡ 0
-choice_down g n h = rw ((le_false (pos 0) g).1 h)
-
 pub choice_below : (g : ℤ) (n : ℕ) → 1 ≤ n → choice g n < n
 choice_below g n h = go (le_z (pos 0) g)
   where
@@ -118,7 +113,7 @@ module _ (c : Job) (e : solutions c ≡ table (member c) (fits c)) where
   tie g k h = rw last (go (ℕ_discrete k (fits c - 1)))
     where
       last : choice (slope c) (fits c) ≡ fits c - 1
-      last = rw g
+      last = choice_level (slope c) (fits c) g
 
       level : objective c (member c (fits c - 1)) ≡ objective c (member c k)
       level =

@@ -10,7 +10,7 @@ use lib.Dec.{eqb}
 use borrow.Author.Tests.{eqb-true, eqb-false}
 use Rattle.ints.specs.Equal.{is_equal}
 use Rattle.ints.specs.Floor.{floor_div}
-use Rattle.ints.proofs.{ℤ, pos, neg_ℤ, lt_z, ◌+ℤ◌, ◌*ℤ◌, ◌<ℤ◌, arith, lin, lin₀, ◌&◌, facts}
+use Rattle.ints.proofs.{ℤ, pos, neg_ℤ, ◌+ℤ◌, ◌*ℤ◌, ◌<ℤ◌, arith, lin, lin₀, ◌&◌, facts}
 use Rattle.ints.proofs.Products.{cancel}
 use Rattle.ints.proofs.Equal.{equal_true}
 use Rattle.ints.proofs.Divides.{floor_exact}
@@ -27,23 +27,9 @@ use Rattle.families.specs.FamilyRun.{Moves, FamilyRun, upward, ratio, index_of, 
 use Rattle.families.proofs.FamilyRuns.{OneForm-Moves, turned-Moves, in_turned, upward_form}
 use Rattle.families.proofs.ExactQuotients.{Indexed, turned-Indexed, Across, at_across, Across-turned, Across-Moves}
 use Rattle.families.proofs.JoinedRuns.{join_form, in_join, join_partners, left, right}
-use Rattle.families.specs.Model.{leading, downwards, Indices, common_numbers, places, directed, join}
+use Rattle.families.specs.Model.{leading, downwards, common_numbers, places, directed, join}
+use Rattle.families.proofs.JoinPairs.{At, Pairs, Turned, directed_is}
 use Rattle.families.proofs.Subfamily.{HoldsAt, Picks, pick, pick_is, pick_below, Picks-empty, index_only}
-
--- k and l stand at one place of the two runs of indices
-pub record At (i : Indices) (k l : ℕ) : Type 0 where
-  pub place : ℕ
-  pub below : place < i.left.many
-  pub left : pos k ≡ nth i.left place
-  pub right : pos l ≡ nth i.right place
-
--- i has just the pairs of indices into P and Q at which the equation holds
-pub record Pairs (e : Form) (P Q : Run) (i : Indices) : Type 0 where
-  pub left : Picks i.left P.many
-  pub right : Picks i.right Q.many
-  pub many : i.right.many ≡ i.left.many
-  pub holds : (t : ℕ) → t < i.left.many → HoldsAt e (nth P (pick i.left t)) (nth Q (pick i.right t))
-  pub all : (k l : ℕ) → k < P.many → l < Q.many → HoldsAt e (nth P k) (nth Q l) → At i k l
 
 -- ---- from the run R of the numbers that are common, and the run S of their partners
 -- a step of 0 goes 0 indices
@@ -84,33 +70,6 @@ record Known (e : Form) (P Q R : Run) : Type 0 where
   partners : 1 ≤ R.many → Across e.a e.b e.c R (across e.a e.b e.c R)
   left : 1 ≤ R.many → Indexed P R (index_of P R.first) (stride_in P R.step)
   right : 1 ≤ R.many → Indexed Q (across e.a e.b e.c R) (index_of Q (across e.a e.b e.c R).first) (stride_in Q (across e.a e.b e.c R).step)
-
--- ---- which way
-leading_down : (lower : Bool) (i : Indices) → (leading lower (downwards i)).step ≡ neg_ℤ (leading lower i).step
-leading_down true i = refl
-leading_down false i = refl
-
-leading_moves : {e : Form} {P Q : Run} {i : Indices} → Pairs e P Q i → (lower : Bool) → 2 ≤ i.left.many → (leading lower i).step ≢ pos 0
-leading_moves o true h = o.left.moves.moves h
-leading_moves o false h = o.right.moves.moves (subst (λ n. 2 ≤ n) (sym o.many) h)
-
--- the pairs, in the direction that is asked for
-record Turned (e : Form) (P Q : Run) (lower : Bool) (i : Indices) : Type 0 where
-  pairs : Pairs e P Q i
-  rises : 2 ≤ i.left.many → pos 0 <ℤ (leading lower i).step
-
-directed_is : {e : Form} {P Q : Run} {i : Indices} (lower : Bool) → Pairs e P Q i → Pairs e P Q (downwards i) → Turned e P Q lower (directed lower i)
-directed_is {e} {P} {Q} {i} lower up down = go (lt_z (leading lower i).step (pos 0)) refl
-  where
-    go : (t : Bool) → lt_z (leading lower i).step (pos 0) ≡ t → Turned e P Q lower (cond t (downwards i) i)
-    go true t = record {
-      pairs = down;
-      rises = λ h. rw (leading_down lower i) (lin ((leading lower i).step ∷ []) t (search facts depth 20) (omega arith));
-    }
-    go false t = record {
-      pairs = up;
-      rises = λ h. lin ((leading lower i).step ∷ []) (t & leading_moves up lower h) (search facts depth 20) (omega arith);
-    }
 
 module _ {e : Form} (lim : CarryLimits e) {P Q : Run} (f : FamilyRun P) (g : FamilyRun Q) where
   module _ {R S : Run} (m : Moves R) (joined : Completed e P Q R) (o : Across e.a e.b e.c R S) {k₀ kₜ l₀ lₜ : ℤ}

@@ -16,6 +16,7 @@ pub mod Subfamily
 -- an equation inside a component leaves all, one index or none: `cycle_leaves`
 pub mod CycleStep
 -- an equation between two components leaves the pairs of members for which it holds (`join-Pairs`), rising (`join_rises`)
+pub mod JoinPairs
 pub mod JoinStep
 -- what one equation leaves, in one form for both: `kept_is`
 pub mod OneEquation
@@ -38,6 +39,7 @@ pub mod FamilySizes
 pub mod ModelIsExact
 -- the best of one component: the last of its family where the slope is 0 or more, and the first elsewhere (`choice-Optimal`,
 -- `best-member`, `chosen_is`)
+pub mod Choice
 pub mod BestOfComponent
 -- a component with a slope other than 0, or with one solution, has one best and one chosen k, whatever the tie-break: `one_best`,
 -- `one_Choice`
@@ -49,6 +51,8 @@ pub mod BestOfJob
 pub mod PlanIsBest
 -- what the model finds is what the definitions find (`findings_by_lem`), and so are its verdict and sheet (`verdict_by_lem`, `sheet-by`)
 pub mod ModelFindings
+-- the model at worked jobs: `marked`, `fitted_model`, `sought_model`
+pub mod ModelVectors
 -- document 01's ten jobs marked *: bytes in, verdict and whole sheet out, for every area (`marked_jobs_lem`, `marked_short`)
 pub mod MarkedJobs
 -- what a planned sheet says of the components (`families_on`), and so the second demand (`definitions_give_fits`)

@@ -10,7 +10,7 @@ use Rattle.lists.specs.Members.{◌∈◌}
 use Rattle.lists.specs.Table.{table}
 use Rattle.lists.proofs.Table.{length-table, table_at, same_table}
 use Rattle.runs.specs.declared.Run.{Run}
-use Rattle.runs.specs.Run.{nth, empty}
+use Rattle.runs.specs.Run.{nth}
 use Rattle.runs.proofs.Members.{same_run}
 use Rattle.families.proofs.ExactQuotients.{few_or_more}
 use Rattle.families.specs.FamilyRun.{FamilyRun}

@@ -15,7 +15,8 @@ use Rattle.families.specs.FamilyRun.{FamilyRun}
 use Rattle.families.specs.Model.{leading, Indices, cycle, common_numbers, join, both_sides, kept}
 use Rattle.families.proofs.Subfamily.{HoldsAt, Picks, pick, pick_is, pick_below}
 use Rattle.families.proofs.CycleStep.{Remains, cycle_leaves}
-use Rattle.families.proofs.JoinStep.{At, Pairs, join-Pairs, join_rises}
+use Rattle.families.proofs.JoinPairs.{At, Pairs}
+use Rattle.families.proofs.JoinStep.{join-Pairs, join_rises}
 
 -- i has just the pairs of indices into P and Q at which the equation holds; where P and Q are of one component, l and r are the
 -- same, and only an index and itself is a pair

@@ -16,7 +16,7 @@ use Rattle.lists.specs.Members.{◌∈◌}
 use Rattle.lists.proofs.Table.{table_at, same_table}
 use Rattle.runs.specs.Run.{bound}
 use Rattle.families.specs.FamilyRun.{FamilyRun}
-use Rattle.bytes.specs.LittleEndian.{u16}
+use Rattle.little_endian.specs.LittleEndian.{u16}
 use Rattle.jobs.specs.Call.{Call}
 use Rattle.jobs.specs.Job.{Job}
 use Rattle.jobs.specs.Amendments.{job_in}
@@ -32,7 +32,7 @@ use Rattle.jobs.specs.Lawful.{LawfulJob}
 use Rattle.jobs.proofs.Components.{in-leads, lead_in, lowest_self, Joined-iff, component_iff, component_below, component_lead}
 use Rattle.jobs.proofs.Numbering.{IsLead-iff, group_is}
 use Rattle.jobs.proofs.Assembly.{none_without, component_length, outside_zero, solves_iff}
-use Rattle.bytes.proofs.TwosComplement.{Within-fits}
+use Rattle.little_endian.proofs.TwosComplement.{Within-fits}
 use Rattle.jobs.proofs.SheetFields.{number_back, base_back, step_back, fits_back, chosen_back, gain_back, sheet_of_back}
 use Rattle.jobs.proofs.DemandsHold.{Optimal-best, number_Within, planned_when, lawful_of, gives_fits}
 use Rattle.families.specs.Family.{member, IsFamily}

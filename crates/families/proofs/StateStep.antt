@@ -21,7 +21,7 @@ use Rattle.jobs.specs.Component.{lowest_by}
 use Rattle.families.specs.Model.{leading, State, run_at, Indices, through, run_after}
 use Rattle.families.specs.Invariant.{IsMember, OnFamily, Invariant}
 use Rattle.families.proofs.Subfamily.{after_left, after_right, after_other, HoldsAt, Picks, pick, pick_is, pick_below, same_nat, two_to_pick, through_many, through-step, through_at, through_form}
-use Rattle.families.proofs.JoinStep.{At}
+use Rattle.families.proofs.JoinPairs.{At}
 use Rattle.families.proofs.OneEquation.{Leaves}
 use Rattle.families.proofs.Labels.{left_label, right_label, new_label, InEither, Relabelled, from_left, from_right, stays, relabelled, new_is, to_new, from_new}
 use Rattle.families.proofs.InvariantStep.{on_family, OnBoth, Step, Named, left_below, right_below, left_self, right_self, new_below, new_self}
