@@ -30,13 +30,13 @@ pub record Through (j : Job) (n k : ℕ) (labels degrees homes kinds : List ℕ)
   pub belongs : Filled 1024 0 (λ k. home (equation j k)) k homes
   pub sorts : Filled 1024 0 (kind j) k kinds
 
-pub begins : (j : Job) (n : ℕ) (labels : List ℕ) → Labels j 0 n labels → Through j n 0 labels (replicate 256 0) (replicate 1024 0) (replicate 1024 0)
-begins j n labels a = record {
+pub begins : (j : Job) (n : ℕ) (labels homes kinds : List ℕ) → Labels j 0 n labels → length homes ≡ 1024 → length kinds ≡ 1024 → Through j n 0 labels (replicate 256 0) homes kinds
+begins j n labels homes kinds a p q = record {
   labelled = a;
   wide = length-replicate {A = ℕ} 256 0;
   named = record { at = λ i h. all_same 256 i 0 ∙ sym (degree_none j i) };
-  belongs = unfilled 0 (λ k. home (equation j k)) (replicate 1024 0) (length-replicate {A = ℕ} 1024 0);
-  sorts = unfilled 0 (kind j) (replicate 1024 0) (length-replicate {A = ℕ} 1024 0);
+  belongs = unfilled 0 (λ k. home (equation j k)) homes p;
+  sorts = unfilled 0 (kind j) kinds q;
 }
 
 -- ---- an equation more adds one to each of its two variables, and one to a variable that it names twice

@@ -95,9 +95,9 @@ fn rename(labels: &mut [u16], low: u16, high: u16, end: usize, n: usize)
 }
 
 /// How many components n variables are in: 01's g.
-pub fn count(labels: [u16; 256], n: usize) -> usize
+pub fn count(labels: &[u16; 256], n: usize) -> usize
     requires { n ≤ 256 }
-    ensures { result ≡ length (leads_by (label_in labels) n) }
+    ensures { result ≡ length (leads_by (label_in labels.now) n) }
 {
     let mut g: usize = 0;
     let mut v: usize = 0;
@@ -111,10 +111,10 @@ pub fn count(labels: [u16; 256], n: usize) -> usize
 }
 
 /// The number of the component of each of n variables: they are numbered in the order of their lowest variables.
-pub fn numbers(labels: [u16; 256], n: usize) -> [u16; 256]
+pub fn numbers(labels: &[u16; 256], n: usize) -> [u16; 256]
     requires n_bound { n ≤ 256 }
-    requires lowest { Lowest labels n }
-    ensures { Tabulates 0 (component_by (label_in labels) n) n result }
+    requires lowest { Lowest labels.now n }
+    ensures { Tabulates 0 (component_by (label_in labels.now) n) n result }
 {
     let mut numbers: [u16; 256] = [0; 256];
     let mut next: u16 = 0;

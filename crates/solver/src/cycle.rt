@@ -11,7 +11,7 @@ ghost use Rattle.solver.specs.Steps.{remains_by};
 use runs::{Equation, Run};
 
 /// What an equation inside a component leaves of the component's family: all of it, or the members at the indices of a run.
-#[derive(Drop)]
+#[derive(Clone, Copy)]
 pub enum Remains {
     All,
     At(Run),

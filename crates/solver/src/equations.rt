@@ -18,19 +18,19 @@ use jobs::{Bounds, Equation};
 use runs::Run;
 
 /// What an equation leaves of the families of its two variables: all of both, or the members at some indices.
-#[derive(Drop)]
+#[derive(Clone, Copy)]
 pub enum Kept {
     All,
     At(Indices),
 }
 
-/// The families of a job with these bounds, after all of its m equations.
-pub fn families(job: &[u8], bounds: [Bounds; 256], n: usize, m: usize) -> State
+/// The families of a job with these bounds, after all of its m equations, put in `state`, whatever that has.
+pub fn families(job: &[u8], bounds: &[Bounds; 256], n: usize, m: usize, state: &mut State)
     requires lawful { Lawful job.now }
     requires n_value { n ≡ variable_count job.now }
     requires m_value { m ≡ equation_count job.now }
-    requires bounded_by { BoundedBy bounds n }
-    ensures { Families (with_bounds (job_of job.now) bounds) result }
+    requires bounded_by { BoundedBy bounds.now n }
+    ensures { Families (with_bounds (job_of job.now) bounds.now) state.new }
 {
     let mut labels = components::apart();
     let mut lasts = components::apart();
@@ -70,10 +70,8 @@ pub fn families(job: &[u8], bounds: [Bounds; 256], n: usize, m: usize) -> State
         }
         k += 1;
     }
-    State {
-        labels: labels,
-        runs: fields::gather(&labels, &firsts, &steps, &manys, n),
-    }
+    state.labels = labels;
+    fields::gather(&labels, &firsts, &steps, &manys, &mut state.runs, n);
 }
 
 // What an equation between variables of the components l and r, which have the runs p and q, leaves of their families.

@@ -9,27 +9,23 @@ ghost use Rattle.runs.specs.Run.{empty};
 
 use runs::Run;
 
-// The runs of n variables, put together: how many a variable's run has stands at the lowest variable of its component.
+// The runs of n variables, put together in `runs`: how many a variable's run has stands at the lowest variable of its component.
 pub(crate) fn gather(
     labels: &[u16],
     firsts: &[i64],
     steps: &[i64],
     manys: &[u32],
+    runs: &mut [Run; 256],
     n: usize,
-) -> [Run; 256]
+)
     requires n_bound { n ≤ 256 }
     requires labels_len { length labels.now ≡ 256 }
     requires firsts_len { length firsts.now ≡ 256 }
     requires steps_len { length steps.now ≡ 256 }
     requires manys_len { length manys.now ≡ 256 }
     requires labelled { Labelled labels.now n }
-    ensures { Tabulates empty (gathered labels.now firsts.now steps.now manys.now) n result }
+    ensures { Tabulates empty (gathered labels.now firsts.now steps.now manys.now) n runs.new }
 {
-    let mut runs: [Run; 256] = [Run {
-        first: 0,
-        step: 0,
-        many: 0,
-    }; 256];
     let mut i: usize = 0;
     while i < n {
         let l = labels[i] as usize;
@@ -40,5 +36,4 @@ pub(crate) fn gather(
         };
         i += 1;
     }
-    runs
 }

@@ -15,7 +15,7 @@ use runs::{Equation, Run};
 
 /// The indices into the family of an equation's left variable, and those into the family of its right variable, that go
 /// together: first with first, and so on.
-#[derive(Drop)]
+#[derive(Clone, Copy)]
 pub struct Indices {
     pub left: Run,
     pub right: Run,

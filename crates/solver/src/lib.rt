@@ -1,6 +1,7 @@
 //! The solver: from a job to its components and the family of each.
 //!
 //! Read `specs/Lib.antt`, then this file, then the modules in the order in which they are listed.
+#![tactic(auto)]
 
 use runs::Run;
 
@@ -31,7 +32,7 @@ pub mod equations;
 /// `first + step·k`, for each k below `many`. The k and the `many` are the component's, so that all its variables move together;
 /// a step may be negative, but that of the component's lowest variable is not. With two or more members no step is 0, with one every
 /// step is, and a component that no numbers fit is 0, 0, 0 throughout.
-#[derive(Drop)]
+#[derive(Clone, Copy)]
 pub struct State {
     pub labels: [u16; 256],
     pub runs: [Run; 256],

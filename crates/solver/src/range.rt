@@ -32,7 +32,7 @@ fn interval(b: Bounds) -> Run
 
 // The full range, met with the bounds of each of n variables, field by field.
 pub(crate) fn start(
-    bounds: [Bounds; 256],
+    bounds: &[Bounds; 256],
     firsts: &mut [i64],
     steps: &mut [i64],
     manys: &mut [u32],
@@ -42,8 +42,8 @@ pub(crate) fn start(
     requires firsts_len { length firsts.old ≡ 256 }
     requires steps_len { length steps.old ≡ 256 }
     requires manys_len { length manys.old ≡ 256 }
-    requires bounded_by { BoundedBy bounds n }
-    ensures { Begins bounds n firsts.new steps.new manys.new }
+    requires bounded_by { BoundedBy bounds.now n }
+    ensures { Begins bounds.now n firsts.new steps.new manys.new }
 {
     let mut i: usize = 0;
     while i < n {

@@ -11,7 +11,7 @@ use jobs::Equation;
 
 /// What the pass finds: of each variable its label, the lowest variable of its component, and how many equations name it; of each
 /// equation its home, the variable whose component is its own, and its kind.
-#[derive(Drop)]
+#[derive(Clone, Copy)]
 pub struct Structure {
     pub labels: [u16; 256],
     pub degrees: [u16; 256],
@@ -19,21 +19,16 @@ pub struct Structure {
     pub kinds: [u16; 1024],
 }
 
-/// The structure of a job with n variables and m equations.
-pub fn of_job(job: &[u8], n: usize, m: usize) -> Structure
+/// The structure of a job with n variables and m equations, put in `found`, whatever that has.
+pub fn of_job(job: &[u8], n: usize, m: usize, found: &mut Structure)
     requires lawful { Lawful job.now }
     requires n_value { n ≡ variable_count job.now }
     requires m_value { m ≡ equation_count job.now }
-    ensures { Structured (job_of job.now) m n result }
+    ensures { Structured (job_of job.now) m n found.new }
 {
     let mut labels = components::apart();
     let mut lasts = components::apart();
-    let mut found = Structure {
-        labels: [0; 256],
-        degrees: [0; 256],
-        homes: [0; 1024],
-        kinds: [0; 1024],
-    };
+    found.degrees = [0; 256];
     let mut k: usize = 0;
     while k < m {
         let e = Equation::read(job, n, k);
@@ -53,7 +48,6 @@ pub fn of_job(job: &[u8], n: usize, m: usize) -> Structure
         k += 1;
     }
     found.labels = labels;
-    found
 }
 
 // The kind of an equation between variables of these components, by document 02: 1 if it joins them, else 2; and 3 if it joins no two

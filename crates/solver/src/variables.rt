@@ -10,40 +10,31 @@ ghost use Rattle.solver.specs.VariableArrays.{BoundsOf, WeightsOf};
 
 use jobs::{Bounds, Variable, amendments};
 
-/// What the rows say, by variable.
-#[derive(Drop)]
-pub struct Variables {
-    pub bounds: [Bounds; 256],
-    pub weights: [i64; 256],
-}
-
-/// The rows of a job's n variables, with the bounds in force: those of its amendments in place of their own. The copies that this takes end
-/// here, so that their stack serves the families too.
-pub fn in_force(job: &[u8], amendments: &[u8], n: usize) -> Variables
+/// What the rows of a job's n variables say, put in the two arrays by variable: the weights, and the bounds in force, those of its
+/// amendments in place of their own.
+pub fn in_force(
+    job: &[u8],
+    amendments: &[u8],
+    bounds: &mut [Bounds; 256],
+    weights: &mut [i64; 256],
+    n: usize,
+)
     requires amendments_value { first_broken (lending_nothing job.now amendments.now) ≡ none }
     requires n_value { n ≡ variable_count job.now }
-    ensures bounds_of { BoundsOf (amended job.now amendments.now) n result.bounds }
-    ensures weights_of { WeightsOf (amended job.now amendments.now) n result.weights }
+    ensures bounds_of { BoundsOf (amended job.now amendments.now) n bounds.new }
+    ensures weights_of { WeightsOf (amended job.now amendments.now) n weights.new }
 {
-    let rows = read(job, n);
-    let own = rows.bounds;
-    let weights = rows.weights;
-    let bounds = amendments::overlay(amendments, own, n);
-    Variables {
-        bounds: bounds,
-        weights: weights,
-    }
+    read(job, bounds, weights, n);
+    amendments::overlay(amendments, bounds, n);
 }
 
 // The rows as they are written.
-fn read(job: &[u8], n: usize) -> Variables
+fn read(job: &[u8], bounds: &mut [Bounds; 256], weights: &mut [i64; 256], n: usize)
     requires rows_inside { RowsInside job.now }
     requires n_value { n ≡ variable_count job.now }
-    ensures bounds_of { BoundsOf (job_of job.now) n result.bounds }
-    ensures weights_of { WeightsOf (job_of job.now) n result.weights }
+    ensures bounds_of { BoundsOf (job_of job.now) n bounds.new }
+    ensures weights_of { WeightsOf (job_of job.now) n weights.new }
 {
-    let mut bounds: [Bounds; 256] = [Bounds { low: 0, high: 0 }; 256];
-    let mut weights: [i64; 256] = [0; 256];
     let mut i: usize = 0;
     while i < n {
         let v = Variable::read(job, i);
@@ -54,9 +45,5 @@ fn read(job: &[u8], n: usize) -> Variables
         let weight = v.weight;
         weights[i] = weight;
         i += 1;
-    }
-    Variables {
-        bounds: bounds,
-        weights: weights,
     }
 }
