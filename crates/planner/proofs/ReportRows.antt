@@ -7,8 +7,8 @@ use lib.ListN.{length}
 use Rattle.lists.specs.Table.{table, up_to}
 use Rattle.lists.proofs.Maps.{flat_map_both}
 use Rattle.lists.proofs.Table.{table_next}
-use Rattle.bytes.specs.Over.{over}
-use Rattle.bytes.proofs.Over.{over-over, length-over}
+use Rattle.little_endian.specs.Over.{over}
+use Rattle.little_endian.proofs.Over.{over-over, length-over}
 
 -- ---- one more row, behind those that stand from a place on
 pub laid : (w at i : ℕ) (rows row a x y : List ℕ) {next : ℕ} → length rows ≡ w * i → at + w * i ≤ length a → next ≡ at + w * i →

@@ -28,9 +28,9 @@ use Rattle.solver.specs.StateArrays.{label_in, run_in}
 use Rattle.solver.specs.Families.{Families}
 use Rattle.solver.specs.VariableArrays.{WeightsOf}
 use Rattle.solver.specs.Labels.{Lowest}
-use Rattle.bytes.specs.Over.{over}
+use Rattle.little_endian.specs.Over.{over}
 use Rattle.planner.specs.Choice.{Members, NoneEmpty}
-use Rattle.bytes.proofs.Over.{over_all}
+use Rattle.little_endian.proofs.Over.{over_all}
 
 module _ (j : Job) (lawful : LawfulJob j) (x : State) (f : Families j x) where
   abbrev n : ℕ

@@ -1,6 +1,6 @@
 -- The survey of a job that the check accepts: whether the areas are long enough, and the map written where one is lent.
 use Rattle.std.specs.Prelude.{◌≡◌, Bool, cond, List, ℕ, ◌≤◌, ◌<◌}
-use Rattle.bytes.specs.Over.{over}
+use Rattle.little_endian.specs.Over.{over}
 use Rattle.jobs.specs.Call.{lent_as}
 use Rattle.jobs.specs.Job.{Job}
 use Rattle.jobs.specs.Component.{component_count}

@@ -13,16 +13,16 @@ ghost use Rattle.planner.specs.Choice.{FamilyRuns, NoneEmpty, AllWithin, FirstEm
 use runs::Run;
 
 /// The first component without a fit, by its lowest variable, or that there is none.
-#[derive(Drop)]
+#[derive(Clone, Copy)]
 pub enum Found {
     At(u16),
     Nothing,
 }
 
 // The first of n variables that no number fits: the lowest of its component, since all variables of a component have equally many.
-pub(crate) fn first_empty(runs: [Run; 256], n: usize) -> Found
+pub(crate) fn first_empty(runs: &[Run; 256], n: usize) -> Found
     requires { n ≤ 256 }
-    ensures { FirstEmpty runs n result }
+    ensures { FirstEmpty runs.now n result }
 {
     let mut i: usize = 0;
     loop {
@@ -39,16 +39,16 @@ pub(crate) fn first_empty(runs: [Run; 256], n: usize) -> Found
 
 // The slope of each component, at its lowest variable: what a step along its family adds to the objective.
 pub(crate) fn slopes(
-    weights: [i64; 256],
-    labels: [u16; 256],
-    runs: [Run; 256],
+    weights: &[i64; 256],
+    labels: &[u16; 256],
+    runs: &[Run; 256],
     n: usize,
 ) -> [i64; 256]
     requires n_bound { n ≤ 256 }
-    requires all_within { AllWithin 1000000 weights n }
-    requires labelled { Labelled labels n }
-    requires family_runs { FamilyRuns runs n }
-    ensures { Tabulates (pos 0) (slope_by n (number weights) (label_in labels) (run_in runs)) n result }
+    requires all_within { AllWithin 1000000 weights.now n }
+    requires labelled { Labelled labels.now n }
+    requires family_runs { FamilyRuns runs.now n }
+    ensures { Tabulates (pos 0) (slope_by n (number weights.now) (label_in labels.now) (run_in runs.now)) n result }
 {
     let mut slopes: [i64; 256] = [0; 256];
     let mut i: usize = 0;
@@ -80,16 +80,16 @@ fn number(run: Run, slope: i64) -> i64
 
 // The number of each of n variables.
 pub(crate) fn numbers(
-    labels: [u16; 256],
-    runs: [Run; 256],
-    slopes: [i64; 256],
+    labels: &[u16; 256],
+    runs: &[Run; 256],
+    slopes: &[i64; 256],
     n: usize,
 ) -> [i64; 256]
     requires n_bound { n ≤ 256 }
-    requires labelled { Labelled labels n }
-    requires family_runs { FamilyRuns runs n }
-    requires none_empty { NoneEmpty runs n }
-    ensures { Tabulates (pos 0) (number_in labels runs slopes) n result }
+    requires labelled { Labelled labels.now n }
+    requires family_runs { FamilyRuns runs.now n }
+    requires none_empty { NoneEmpty runs.now n }
+    ensures { Tabulates (pos 0) (number_in labels.now runs.now slopes.now) n result }
 {
     let mut numbers: [i64; 256] = [0; 256];
     let mut i: usize = 0;
@@ -104,11 +104,11 @@ pub(crate) fn numbers(
 }
 
 // What these numbers are worth.
-pub(crate) fn objective(weights: [i64; 256], numbers: [i64; 256], n: usize) -> i64
+pub(crate) fn objective(weights: &[i64; 256], numbers: &[i64; 256], n: usize) -> i64
     requires n_bound { n ≤ 256 }
-    requires all_within { AllWithin 1000000 weights n }
-    requires all_within_2 { AllWithin 2000000000 numbers n }
-    ensures { result ≡ objective_in weights numbers n }
+    requires all_within { AllWithin 1000000 weights.now n }
+    requires all_within_2 { AllWithin 2000000000 numbers.now n }
+    ensures { result ≡ objective_in weights.now numbers.now n }
 {
     let mut objective: i64 = 0;
     let mut i: usize = 0;

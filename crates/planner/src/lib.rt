@@ -1,6 +1,7 @@
 //! The planner: it reads a job and writes the sheet of its best solution, or says why there is none.
 //!
 //! Read `specs/Lib.antt`, then this file, then the modules in the order in which they are listed.
+#![tactic(auto)]
 
 ghost use Rattle.std.specs.Prelude.{◌≡◌, ◌+◌, ◌*◌, ◌≤◌, length};
 ghost use Rattle.std.proofs.Math.Option.{none};
@@ -20,15 +21,17 @@ ghost use Rattle.jobs.specs.Demands.{UntouchedUnless, Plans};
 ghost use Rattle.families.specs.ModelFindings.{leads_by, findings_by};
 ghost use Rattle.solver.specs.StateArrays.{label_in, run_in};
 ghost use Rattle.solver.specs.Labels.{Lowest};
-ghost use Rattle.bytes.specs.Over.{over};
+ghost use Rattle.little_endian.specs.Over.{over};
 ghost use Rattle.planner.specs.Choice.{Members, NoneEmpty, AllWithin};
 ghost use Rattle.planner.specs.Outcome.{verdict_of, refusal_of};
 ghost use Rattle.planner.specs.Lending.{areas_in};
 ghost use Rattle.planner.specs.Survey.{Surveyed};
 
 use choose::Found;
-use jobs::{Checked, header};
+use jobs::{Bounds, Checked, header};
 use reasons::Reason;
+use runs::Run;
+use solver::structure::Structure;
 use solver::{State, components, equations, structure, variables};
 
 // the choice in each component
@@ -41,7 +44,7 @@ mod sheet;
 mod map;
 
 /// The planner's answer.
-#[derive(Drop)]
+#[derive(Clone, Copy)]
 pub enum Outcome {
     /// The sheet stands in the answer area, and its numbers are worth so much.
     Planned(i64),
@@ -52,7 +55,7 @@ pub enum Outcome {
 }
 
 /// What the areas of a call have room for.
-#[derive(Drop)]
+#[derive(Clone, Copy)]
 pub enum Survey {
     /// The answer area is too short for the sheet; nothing is written.
     ShortArea,
@@ -63,7 +66,7 @@ pub enum Survey {
 }
 
 /// Which of the areas that a call may lend it does lend. The answer area is always lent.
-#[derive(Drop)]
+#[derive(Clone, Copy)]
 pub struct Lent {
     pub map: bool,
 }
@@ -111,16 +114,21 @@ fn surveyed(job: &[u8], map: &mut [u8], lent: bool, n: usize, m: usize, room: us
     requires m_value { m ≡ equation_count job.now }
     ensures { Surveyed (job_of job.now) room lent map.old map.new result }
 {
-    let structure = structure::of_job(job, n, m);
-    let labels = structure.labels;
-    let g = components::count(labels, n);
+    let mut structure = Structure {
+        labels: [0; 256],
+        degrees: [0; 256],
+        homes: [0; 1024],
+        kinds: [0; 1024],
+    };
+    structure::of_job(job, n, m, &mut structure);
+    let g = components::count(&structure.labels, n);
     if room < sheet::length(n, g) {
         return Survey::ShortArea;
     }
     if map::is_short(map, lent, n, m) {
         return Survey::ShortMap;
     }
-    map::write(map, lent, structure, n, m, g);
+    map::write(map, lent, &structure, n, m, g);
     Survey::Mapped(g)
 }
 
@@ -135,36 +143,43 @@ fn solved(job: &[u8], amendments: &[u8], area: &mut [u8], n: usize, m: usize, g:
     ensures area_after { area.new ≡ sheet_after (findings (amended job.now amendments.now)) (fitting (amended job.now amendments.now)) area.old }
     ensures result_value_2 { refusal_of result ≡ none }
 {
-    let rows = variables::in_force(job, amendments, n);
-    let bounds = rows.bounds;
-    let weights = rows.weights;
-    let state = equations::families(job, bounds, n, m);
-    let runs = state.runs;
-    let empty = choose::first_empty(runs, n);
+    let mut bounds: [Bounds; 256] = [Bounds { low: 0, high: 0 }; 256];
+    let mut weights: [i64; 256] = [0; 256];
+    variables::in_force(job, amendments, &mut bounds, &mut weights, n);
+    let mut state = State {
+        labels: [0; 256],
+        runs: [Run {
+            first: 0,
+            step: 0,
+            many: 0,
+        }; 256],
+    };
+    equations::families(job, &bounds, n, m, &mut state);
+    let empty = choose::first_empty(&state.runs, n);
     match empty {
         Found::At(l) => Outcome::NoFit(l),
-        Found::Nothing => written(area, weights, state, n, g),
+        Found::Nothing => written(area, &weights, &state, n, g),
     }
 }
 
 // The sheet of what is found, where every component has a fit-out; state has the families of n variables in g components.
-fn written(area: &mut [u8], weights: [i64; 256], state: State, n: usize, g: usize) -> Outcome
+fn written(area: &mut [u8], weights: &[i64; 256], state: &State, n: usize, g: usize) -> Outcome
     requires n_bound { n ≤ 256 }
-    requires all_within { AllWithin 1000000 weights n }
-    requires lowest { Lowest state.labels n }
-    requires members { Members state.labels state.runs n }
-    requires none_empty { NoneEmpty state.runs n }
-    requires g_value { g ≡ length (leads_by (label_in state.labels) n) }
+    requires all_within { AllWithin 1000000 weights.now n }
+    requires lowest { Lowest state.now.labels n }
+    requires members { Members state.now.labels state.now.runs n }
+    requires none_empty { NoneEmpty state.now.runs n }
+    requires g_value { g ≡ length (leads_by (label_in state.now.labels) n) }
     requires g_in_bounds { 24 + 16 * n + 16 * g ≤ length area.old }
-    ensures result_value { verdict_of result ≡ planned (findings_by n (number weights) (label_in state.labels) (run_in state.runs)).objective }
-    ensures area_after { area.new ≡ over 0 (sheet_of (findings_by n (number weights) (label_in state.labels) (run_in state.runs))) area.old }
+    ensures result_value { verdict_of result ≡ planned (findings_by n (number weights.now) (label_in state.now.labels) (run_in state.now.runs)).objective }
+    ensures area_after { area.new ≡ over 0 (sheet_of (findings_by n (number weights.now) (label_in state.now.labels) (run_in state.now.runs))) area.old }
     ensures result_value_2 { refusal_of result ≡ none }
 {
-    let labels = state.labels;
-    let runs = state.runs;
+    let labels = &state.labels;
+    let runs = &state.runs;
     let slopes = choose::slopes(weights, labels, runs, n);
-    let numbers = choose::numbers(labels, runs, slopes, n);
-    let objective = choose::objective(weights, numbers, n);
-    sheet::write(area, labels, runs, slopes, numbers, n, g, objective);
+    let numbers = choose::numbers(labels, runs, &slopes, n);
+    let objective = choose::objective(weights, &numbers, n);
+    sheet::write(area, labels, runs, &slopes, &numbers, n, g, objective);
     Outcome::Planned(objective)
 }

@@ -1,7 +1,7 @@
 //! The map, written into the map area where one is lent: a header, a row for each variable, and a row for each equation.
 
 ghost use Rattle.std.specs.Prelude.{◌≡◌, true, cond, ◌↔◌, ◌+◌, ◌*◌, ◌≤◌, length, get_or};
-ghost use Rattle.bytes.specs.Over.{over};
+ghost use Rattle.little_endian.specs.Over.{over};
 ghost use Rattle.jobs.specs.Call.{lent_as};
 ghost use Rattle.jobs.specs.ReasonTable.{Shorter};
 ghost use Rattle.jobs.specs.MapLayout.{map_header, map_row, map_rows, map_of};
@@ -31,14 +31,14 @@ pub(crate) fn is_short(map: &[u8], lent: bool, n: usize, m: usize) -> bool
 }
 
 // The map of n variables in g components and m equations, if an area is lent for it. What lies behind it stays.
-pub(crate) fn write(map: &mut [u8], lent: bool, structure: Structure, n: usize, m: usize, g: usize)
+pub(crate) fn write(map: &mut [u8], lent: bool, structure: &Structure, n: usize, m: usize, g: usize)
     requires n_bound { n ≤ 256 }
     requires m_bound { m ≤ 1024 }
-    requires lowest { Lowest structure.labels n }
-    requires all_below { AllBelow n structure.homes m }
-    requires g_value { g ≡ length (leads_by (label_in structure.labels) n) }
+    requires lowest { Lowest structure.now.labels n }
+    requires all_below { AllBelow n structure.now.homes m }
+    requires g_value { g ≡ length (leads_by (label_in structure.now.labels) n) }
     requires fact { Shorter (lent_as lent map.old) (24 + 4 * n + 4 * m) → ⊥ }
-    ensures { map.new ≡ cond lent (over 0 (map_of (structure_in structure n m)) map.old) map.old }
+    ensures { map.new ≡ cond lent (over 0 (map_of (structure_in structure.now n m)) map.old) map.old }
 {
     if !lent {
         return;
@@ -47,23 +47,23 @@ pub(crate) fn write(map: &mut [u8], lent: bool, structure: Structure, n: usize, 
 }
 
 // All of it, into an area that is long enough.
-fn filled(map: &mut [u8], structure: Structure, n: usize, m: usize, g: usize)
+fn filled(map: &mut [u8], structure: &Structure, n: usize, m: usize, g: usize)
     requires n_bound { n ≤ 256 }
     requires m_bound { m ≤ 1024 }
-    requires lowest { Lowest structure.labels n }
-    requires all_below { AllBelow n structure.homes m }
-    requires g_value { g ≡ length (leads_by (label_in structure.labels) n) }
+    requires lowest { Lowest structure.now.labels n }
+    requires all_below { AllBelow n structure.now.homes m }
+    requires g_value { g ≡ length (leads_by (label_in structure.now.labels) n) }
     requires m_in_bounds { 24 + 4 * n + 4 * m ≤ length map.old }
-    ensures { map.new ≡ over 0 (map_of (structure_in structure n m)) map.old }
+    ensures { map.new ≡ over 0 (map_of (structure_in structure.now n m)) map.old }
 {
-    let labels = structure.labels;
-    let degrees = structure.degrees;
-    let homes = structure.homes;
-    let kinds = structure.kinds;
+    let labels = &structure.labels;
+    let degrees = &structure.degrees;
+    let homes = &structure.homes;
+    let kinds = &structure.kinds;
     let numbers = components::numbers(labels, n);
     header(map, n, m, g);
-    rows(map, 24, &numbers, &labels, &degrees, n);
-    rows(map, 24 + 4 * n, &numbers, &homes, &kinds, m);
+    rows(map, 24, &numbers, labels, degrees, n);
+    rows(map, 24 + 4 * n, &numbers, homes, kinds, m);
 }
 
 fn header(map: &mut [u8], n: usize, m: usize, g: usize)
@@ -74,12 +74,12 @@ fn header(map: &mut [u8], n: usize, m: usize, g: usize)
     ensures { map.new ≡ over 0 (map_header n m g) map.old }
 {
     mark::put(map, MARK);
-    bytes::put(map, 4, 2, n as u64);
-    bytes::put(map, 6, 2, m as u64);
-    bytes::put(map, 8, 4, 24);
-    bytes::put(map, 12, 4, 24 + 4 * n as u64);
-    bytes::put(map, 16, 2, g as u64);
-    bytes::put(map, 18, 6, 0);
+    little_endian::put(map, 4, 2, n as u64);
+    little_endian::put(map, 6, 2, m as u64);
+    little_endian::put(map, 8, 4, 24);
+    little_endian::put(map, 12, 4, 24 + 4 * n as u64);
+    little_endian::put(map, 16, 2, g as u64);
+    little_endian::put(map, 18, 6, 0);
 }
 
 // Rows from a place on: each has the number of the component of its home, and a second number. A variable's label is a home of its own,
@@ -110,6 +110,6 @@ fn row(map: &mut [u8], at: usize, x: u16, y: u16)
     requires { at + 4 ≤ length map.old }
     ensures { map.new ≡ over at (map_row x y) map.old }
 {
-    bytes::put(map, at, 2, x as u64);
-    bytes::put(map, at + 2, 2, y as u64);
+    little_endian::put(map, at, 2, x as u64);
+    little_endian::put(map, at + 2, 2, y as u64);
 }

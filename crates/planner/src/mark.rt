@@ -1,7 +1,7 @@
 //! The mark at the head of a report.
 
 ghost use Rattle.std.specs.Prelude.{◌≡◌, ◌≤◌, length};
-ghost use Rattle.bytes.specs.Over.{over};
+ghost use Rattle.little_endian.specs.Over.{over};
 
 // The four bytes of a mark, written at the front of an area.
 pub(crate) fn put(area: &mut [u8], mark: [u8; 4])

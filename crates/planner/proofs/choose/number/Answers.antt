@@ -1,7 +1,6 @@
 -- `number` meets its contract: the member is one of the family, and so within the range.
 use mathlib.Core.Path.{◌≡◌, sym, ◌∙◌, ap, ap₂, subst}
 use Prim.Native.Nat.{ℕ, ◌≤◌, ◌<◌}
-use borrow.Author.Rules.{rules}
 use mir.Syntax.{w64}
 use mir.Val.{SFits, to_z}
 use mir.Facts.{to_z-of_z}
@@ -14,8 +13,8 @@ use Rattle.families.specs.Family.{choice}
 use Rattle.families.proofs.BestOfComponent.{choice_below}
 use Rattle.families.proofs.FamilySizes.{member_Within, step-Within, many_within}
 use Rattle.solver.proofs.In64Bits.{fits_64, held-first, held-step, crossable}
-use Rattle.planner.proofs.choose.number.Statement.{statement}
-use Rattle.planner.proofs.choose.number.Tie as tie
+use Rattle.planner.proofs.choose.number.Goals.{After-choice}
+use Rattle.planner.proofs.choose.number.Goals as goal
 
 -- k is the index of the member that is chosen
 module _ (r : Run) (slope : ℤ) (k : ℕ) (f : FamilyRun r) (some : 1 ≤ r.many) (e : k ≡ choice slope r.many) where
@@ -40,26 +39,17 @@ module _ (r : Run) (slope : ℤ) (k : ℕ) (f : FamilyRun r) (some : 1 ≤ r.man
   fits_total : SFits w64 (r.first +ℤ r.step *ℤ pos k)
   fits_total = fits_64 1000000000 (omega arith) (member_Within f k below)
 
-chosen : (c : tie.After-choice) → c.choice.result ≡ choice c.before.args.slope c.before.args.run.many
-chosen c = c.choice.ensures ∙ ap (λ g. choice g c.before.args.run.many) (to_z-of_z c.before.ranges.slope)
+chosen : (c : After-choice) → c.choice.result ≡ choice c.args.slope c.args.run.many
+chosen c = c.choice.ensures ∙ ap (λ g. choice g c.args.run.many) (to_z-of_z c.ranges.slope)
 
-mul-result : tie.Need-overflow-mul-result
-mul-result c =
-    let a = c.before.before in
-    let s = a.before in
-    subst (SFits w64) (sym (product s.args.run s.args.slope a.choice.result s.requires.0 s.requires.1 (chosen a))) (fits_product s.args.run s.args.slope a.choice.result s.requires.0 s.requires.1 (chosen a))
+pub overflow_mul-result : goal.overflow_mul-result
+overflow_mul-result c = let a = (goal.at.overflow_mul-result c).After-choice in
+    subst (SFits w64) (sym (product c.args.run c.args.slope c.choice.result c.requires.family_run c.requires.le_many (chosen a))) (fits_product c.args.run c.args.slope c.choice.result c.requires.family_run c.requires.le_many (chosen a))
 
-add-result : tie.Need-overflow-add-result
-add-result c =
-    let a = c.before.before.before.before in
-    let s = a.before in
-    subst (SFits w64) (sym (total s.args.run s.args.slope a.choice.result s.requires.0 s.requires.1 (chosen a))) (fits_total s.args.run s.args.slope a.choice.result s.requires.0 s.requires.1 (chosen a))
+pub overflow_add-result : goal.overflow_add-result
+overflow_add-result c = let a = (goal.at.overflow_add-result c).After-choice in
+    subst (SFits w64) (sym (total c.args.run c.args.slope c.choice.result c.requires.family_run c.requires.le_many (chosen a))) (fits_total c.args.run c.args.slope c.choice.result c.requires.family_run c.requires.le_many (chosen a))
 
-returns : tie.Need-returns
-returns c =
-    let a = c.before.before.before.before in
-    let s = a.before in
-    ap held (total s.args.run s.args.slope a.choice.result s.requires.0 s.requires.1 (chosen a)) ∙ to_z-of_z (fits_total s.args.run s.args.slope a.choice.result s.requires.0 s.requires.1 (chosen a)) ∙ ap (λ k. s.args.run.first +ℤ s.args.run.step *ℤ pos k) (chosen a)
-
-pub number-spec : {M : Type 1} → statement M
-number-spec = tie.close (tie.spec (search rules) (search rules) mul-result add-result returns)
+pub returns : goal.returns
+returns c = let a = (goal.at.returns c).After-choice in
+    ap held (total c.args.run c.args.slope c.choice.result c.requires.family_run c.requires.le_many (chosen a)) ∙ to_z-of_z (fits_total c.args.run c.args.slope c.choice.result c.requires.family_run c.requires.le_many (chosen a)) ∙ ap (λ k. c.args.run.first +ℤ c.args.run.step *ℤ pos k) (chosen a)

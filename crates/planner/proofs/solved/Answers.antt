@@ -3,7 +3,6 @@ use mathlib.Core.Path.{◌≡◌, refl, sym, ◌∙◌, ap, subst}
 use mathlib.Core.Option.{Option, none}
 use mathlib.Core.List.{List}
 use Prim.Native.Nat.{ℕ, ◌+◌, ◌*◌, ◌≤◌, ◌<◌}
-use borrow.Author.Rules.{rules}
 use native.Mathlib.Omega.{arith}
 use lib.ListN.{length}
 use Rattle.ints.specs.Within.{Within}
@@ -30,10 +29,13 @@ use Rattle.jobs.proofs.AmendedJob.{amended-length, variable-amended, amended_wit
 use Rattle.solver.specs.VariableArrays.{BoundsOf, WeightsOf}
 use Rattle.solver.proofs.LabelsOfJob.{vars}
 use Rattle.planner.proofs.StateOfJob.{labels, members, counted, found, full, objective-best, area_best}
-use Rattle.planner.proofs.solved.Statement.{statement}
+use Rattle.planner.proofs.solved.Goals.{After-first_empty-empty, After-in_force, Start}
+use Rattle.planner.proofs.solved.Lts as lts
 use Rattle.planner.proofs.solved.Tie as tie
+use Rattle.planner.proofs.solved.Reads as reads
+use Rattle.planner.proofs.solved.Goals as goal
 
-module _ (s : tie.Start) where
+module _ (s : Start) where
   abbrev job : List ℕ
   job = s.args.job.now
 
@@ -50,7 +52,7 @@ module _ (s : tie.Start) where
   n = s.args.n
 
   accepted : first_broken call ≡ none
-  accepted = s.pre.0
+  accepted = s.requires.amendments_value
 
   rows_Lawful : Lawful job
   rows_Lawful = lawful-job call accepted
@@ -59,7 +61,7 @@ module _ (s : tie.Start) where
   lawful = lawful_amended call accepted
 
   n_rows : n ≡ length (job_of job).variables
-  n_rows = vars job n s.args.m s.pre.1.0 s.pre.1.1.0
+  n_rows = vars job n s.args.m s.requires.n_value s.requires.m_value
 
   n_all : n ≡ length j.variables
   n_all = n_rows ∙ sym (amended-length job amendments)
@@ -79,94 +81,66 @@ module _ (s : tie.Start) where
   by_first : {o : Option ℕ} → first_without j ≡ o → fitting j ≡ outcome none o (objective j (best j))
   by_first e = ap (λ o. outcome none o (objective j (best j))) e
 
-in-force-requires : tie.Need-in-force-requires
-in-force-requires c κs = let s = c.before.before.before in (accepted s, s.requires.1.0)
-
-families-requires : tie.Need-families-requires
-families-requires c κs =
-    let r = c.before.before in
-    let s = r.before.before.before.before in
-    (rows_Lawful s, (s.requires.1.0, (s.requires.1.1.0, bounded s r.in-force.result.bounds r.in-force.ensures.0)))
+pub families-requires : goal.families-requires
+families-requires c = let s = (goal.at.families-requires c).Start in
+    record { lawful = rows_Lawful s; n_value = c.requires.n_value; m_value = c.requires.m_value; bounded_by = bounded s c.in_force.new.bounds c.in_force.ensures.bounds_of }
 
 -- before the rows are read
-abbrev start_of : tie.After-in-force → tie.Start
-start_of r = r.before.before.before.before
+abbrev start_of : lts.After-in_force tie.the-claims reads.Pre reads.Post tie.handed_clauses → Start
+start_of r = r.before.before.before.before.before.before
 
-first-empty-requires : tie.Need-first-empty-requires
-first-empty-requires c κs = let s = start_of c.before.before.before.before in omega (arith, s.pre.1.0, (rows_Lawful s).rows.variables)
+pub first_empty-empty-requires : goal.first_empty-empty-requires
+first_empty-empty-requires c = let s = start_of (goal.at.first_empty-empty-requires c).After-in_force.before in omega (arith, s.requires.n_value, (rows_Lawful s).rows.variables)
 
 -- with the families in hand
-module _ (c : tie.After-first-empty) where
-  abbrev rows : tie.After-in-force
+module _ (c : lts.After-first_empty tie.the-claims reads.Pre reads.Post tie.handed_clauses) where
+  abbrev rows : lts.After-in_force tie.the-claims reads.Pre reads.Post tie.handed_clauses
   rows = c.before.before.before.before.before
 
-  abbrev start : tie.Start
+  abbrev start : Start
   start = start_of rows
 
   abbrev state : State
-  state = c.before.before.families.result
+  state = c.families.new.state
 
   are_families : Families (j start) state
   are_families =
-      subst (λ j. Families j state) (as_amended start rows.in-force.result.bounds rows.in-force.ensures.0) c.before.before.families.ensures
+      subst (λ j. Families j state) (as_amended start rows.in_force.new.bounds rows.in_force.ensures.bounds_of) c.families.ensures
 
-  weighs : WeightsOf (j start) (n start) rows.in-force.result.weights
-  weighs = rows.in-force.ensures.1
+  weighs : WeightsOf (j start) (n start) rows.in_force.new.weights
+  weighs = rows.in_force.ensures.weights_of
 
-  weighed : AllWithin 1000000 rows.in-force.result.weights (n start)
+  weighed : AllWithin 1000000 rows.in_force.new.weights (n start)
   weighed = record { at = λ i h. subst (Within 1000000) (sym (weighs.at i h)) ((lawful start).each_variable i (omega (arith, h, n_all start))).weight }
 
   grouped : start.args.g ≡ length (leads_by (label_in state.labels) (n start))
-  grouped = start.pre.1.1.1.0 ∙ counted (j start) (lawful start) state are_families ∙ ap (λ k. length (leads_by (label_in state.labels) k)) (sym (n_all start))
+  grouped = start.requires.g_value ∙ counted (j start) (lawful start) state are_families ∙ ap (λ k. length (leads_by (label_in state.labels) k)) (sym (n_all start))
 
   room : 24 + 16 * n start + 16 * start.args.g ≤ length start.args.area.now
-  room = omega (arith, n_all start, start.pre.1.1.1.0, start.pre.1.1.1.1)
+  room = omega (arith, n_all start, start.requires.g_value, start.requires.amendments_in_bounds)
 
-written-requires : tie.Need-written-requires
-written-requires c κs =
-    let e = c.before.before.before in
-    let s = start e in (
-      omega (arith, s.pre.1.0, (rows_Lawful s).rows.variables),
-      (
-        weighed e,
-        (
-          subst (Lowest (state e).labels) (sym (n_all s)) (labels (j s) (lawful s) (state e) (are_families e)),
-          (
-            subst (Members (state e).labels (state e).runs) (sym (n_all s)) (members (j s) (lawful s) (state e) (are_families e)),
-            (subst (FirstEmpty (state e).runs (n s)) c.before.enum_told.given.1 e.first-empty.ensures, (grouped e, room e)),
-          ),
-        ),
-      ),
-    )
+pub written-requires : goal.written-requires
+written-requires c = let e = (goal.at.written-requires c).After-first_empty-empty.before in
+    let s = start e in record { n_bound = omega (arith, s.requires.n_value, (rows_Lawful s).rows.variables); all_within = weighed e; lowest = subst (Lowest (state e).labels) (sym (n_all s)) (labels (j s) (lawful s) (state e) (are_families e)); members = subst (Members (state e).labels (state e).runs) (sym (n_all s)) (members (j s) (lawful s) (state e) (are_families e)); none_empty = subst (FirstEmpty (state e).runs (n s)) c.in-Nothing.is c.first_empty-empty.ensures; g_value = grouped e; g_in_bounds = room e }
 
-returns : tie.Need-returns
+pub returns-in-At : goal.returns-in-At
 unfolding sheet_after
-returns c =
-    let e = c.before.before.before in
+returns-in-At c = let e = (goal.at.returns-in-At c).After-first_empty-empty.before in
     let s = start e in
-    let l = c.before.empty.given.0.0 in
-    let f = subst (FirstEmpty (state e).runs (n s)) c.before.empty.given.1 e.first-empty.ensures in
+    let l = c.in-At.l in
+    let f = subst (FirstEmpty (state e).runs (n s)) c.in-At.is c.first_empty-empty.ensures in
     let v = by_first s (found (j s) (lawful s) (state e) (are_families e) l (omega (arith, f.0, n_all s)) f.1.0 f.1.1) in
-    (sym v, (ap (λ v. sheet_after (findings (j s)) v s.args.area.now) (sym v), refl))
+    record { result_value = sym v; area_after = ap (λ v. sheet_after (findings (j s)) v s.args.area.now) (sym v); result_value_2 = refl }
 
-returns-2 : tie.Need-returns-2
+pub returns-in-Nothing : goal.returns-in-Nothing
 unfolding sheet_after
-returns-2 c =
-    let w = c.before.before in
-    let e = w.before.before.before.before in
+returns-in-Nothing c = let e = (goal.at.returns-in-Nothing c).After-first_empty-empty.before in
     let s = start e in
-    let f = subst (FirstEmpty (state e).runs (n s)) w.before.before.enum_told.given.1 e.first-empty.ensures in
-    let weights = (rows e).in-force.result.weights in
-    let v = by_first s (full (j s) (lawful s) (state e) (are_families e) (subst (NoneEmpty (state e).runs) (n_all s) f)) in (
-      w.written.ensures.0 ∙ ap planned (objective-best (j s) (lawful s) (state e) (are_families e) (n_all s) weights (weighs e) f) ∙ sym v,
-      (
-        w.written.ensures.1.0 ∙ area_best (j s) (lawful s) (state e) (are_families e) (n_all s) weights (weighs e) f s.args.area.now
-            ∙ ap (λ v. sheet_after (findings (j s)) v s.args.area.now) (sym v),
-        w.written.ensures.1.1,
-      ),
-    )
-
-pub solved-spec : {M : Type 1} → statement M
-solved-spec =
-    tie.close
-    (tie.spec in-force-requires families-requires first-empty-requires (search rules) (search rules) written-requires returns (search rules) returns-2)
+    let f = subst (FirstEmpty (state e).runs (n s)) c.in-Nothing.is c.first_empty-empty.ensures in
+    let weights = (rows e).in_force.new.weights in
+    let v = by_first s (full (j s) (lawful s) (state e) (are_families e) (subst (NoneEmpty (state e).runs) (n_all s) f)) in record {
+      result_value = c.written.ensures.result_value ∙ ap planned (objective-best (j s) (lawful s) (state e) (are_families e) (n_all s) weights (weighs e) f) ∙ sym v;
+      area_after = c.written.ensures.area_after ∙ area_best (j s) (lawful s) (state e) (are_families e) (n_all s) weights (weighs e) f s.args.area.now
+          ∙ ap (λ v. sheet_after (findings (j s)) v s.args.area.now) (sym v);
+      result_value_2 = c.written.ensures.result_value_2;
+    }

@@ -5,10 +5,9 @@ use mathlib.Core.Option.{some}
 use mathlib.Core.List.{List}
 use Prim.Native.Nat.{ℕ}
 use lib.ListN.{length}
-use borrow.Author.Rules.{rules}
 use native.Mathlib.Omega.{arith}
-use Rattle.bytes.specs.Over.{over}
-use Rattle.bytes.proofs.Over.{over_all}
+use Rattle.little_endian.specs.Over.{over}
+use Rattle.little_endian.proofs.Over.{over_all}
 use Rattle.reasons.specs.declared.Reason.TheVariants.{ShortArea as Reason-as-ShortArea, ShortMap as Reason-as-ShortMap}
 use Rattle.jobs.specs.Call.{Call, lent_as, areas_of, lending_nothing, call_of, on_lent}
 use Rattle.jobs.specs.Job.{Job, job_of}
@@ -31,8 +30,11 @@ use Rattle.planner.specs.Lending.{areas_in}
 use Rattle.planner.specs.declared.Survey.{Survey}
 use Rattle.planner.specs.declared.Survey.TheVariants.{ShortArea, ShortMap, Mapped as Fitted}
 use Rattle.planner.specs.Survey.{Surveyed, Fits}
-use Rattle.planner.proofs.fitted.Statement.{statement}
+use Rattle.planner.proofs.fitted.Goals.{After-surveyed-survey, Start}
+use Rattle.planner.proofs.fitted.Lts as lts
 use Rattle.planner.proofs.fitted.Tie as tie
+use Rattle.planner.proofs.fitted.Reads as reads
+use Rattle.planner.proofs.fitted.Goals as goal
 
 -- the map where one is lent, and else the area as it came
 mapped : (t : Structure) (v : Verdict) (lent : Bool) (area : List ℕ) → Mapped v → lent_as lent (cond lent (over 0 (map_of t) area) area) ≡ on_lent (map_after t v) (lent_as lent area)
@@ -61,8 +63,8 @@ module _ (s a : List ℕ) where
   }
 
 -- with the survey made
-module _ (c : tie.After-surveyed) where
-  abbrev start : tie.Start
+module _ (c : lts.After-surveyed tie.the-claims reads.Pre reads.Post tie.handed_clauses) where
+  abbrev start : Start
   start = c.before.before.before.before.before.before.before.before
 
   abbrev job : List ℕ
@@ -81,72 +83,54 @@ module _ (c : tie.After-surveyed) where
   before = start.args.map.now
 
   abbrev after : List ℕ
-  after = c.surveyed.new.1.0
+  after = c.surveyed-survey.new.map
 
   abbrev call : Call
   call = call_of job amendments (areas_in start.args.lent start.args.area.now before)
 
   -- by the answer
-  answer : {r : Survey} → c.surveyed.result ≡ r → Surveyed j (length start.args.area.now) lent before after r
-  answer e = subst (Surveyed j (length start.args.area.now) lent before after) e (surveyed_amended job amendments (length start.args.area.now) lent before after c.surveyed.result c.surveyed.ensures)
+  answer : {r : Survey} → c.surveyed-survey.result ≡ r → Surveyed j (length start.args.area.now) lent before after r
+  answer e = subst (Surveyed j (length start.args.area.now) lent before after) e (surveyed_amended job amendments (length start.args.area.now) lent before after c.surveyed-survey.result c.surveyed-survey.ensures)
 
 -- the job's rows are lawful
-accepted : (s : tie.Start) → Lawful s.args.job.now
+accepted : (s : Start) → Lawful s.args.job.now
 accepted s = lawful (lending_nothing s.args.job.now s.args.amendments.now) s.requires
 
-variable-count-requires : tie.Need-variable-count-requires
-variable-count-requires c κs = let s = c.before.before.before.before in omega (arith, (accepted s).rows.whole)
+pub variable_count-n-requires : goal.variable_count-n-requires
+variable_count-n-requires c = let s = (goal.at.variable_count-n-requires c).Start in omega (arith, (accepted s).rows.whole)
 
-equation-count-requires : tie.Need-equation-count-requires
-equation-count-requires c κs = let s = c.before.before.before.before.before in omega (arith, (accepted s).rows.whole)
+pub equation_count-m-requires : goal.equation_count-m-requires
+equation_count-m-requires c = let s = (goal.at.equation_count-m-requires c).Start in omega (arith, (accepted s).rows.whole)
 
-surveyed-requires : tie.Need-surveyed-requires
-surveyed-requires c κs =
-    let s = c.before.before.before.before.before.before.before in
-    (accepted s, (c.before.before.variable-count.ensures, c.before.equation-count.ensures))
+pub surveyed-survey-requires : goal.surveyed-survey-requires
+surveyed-survey-requires c = let s = (goal.at.surveyed-survey-requires c).Start in
+    record { lawful = accepted s; n_value = c.variable_count-n.ensures; m_value = c.equation_count-m.ensures }
 
-returns : tie.Need-returns
-returns c =
-    let k = c.before.before.before.before in
-    let f = answer k c.enum_told.given.1 in
+pub returns-in-ShortArea : goal.returns-in-ShortArea
+returns-in-ShortArea c = let k = (goal.at.returns-in-ShortArea c).After-surveyed-survey.before in
+    let f = answer k c.in-ShortArea.is in
     let e = fault_short (call k) (start k).requires f.short in
     let (p, q) = as_broken (call k) Reason-as-ShortArea e in
-    (sym p, (ap (λ m. areas_in (start k).args.lent (start k).args.area.now m) f.untouched ∙ sym q, (sym e, λ e. f.untouched)))
+    record { result_value = sym p; map_after = ap (λ m. areas_in (start k).args.lent (start k).args.area.now m) f.untouched ∙ sym q; result_value_2 = sym e; untouched_unless = λ e. f.untouched }
 
-returns-2 : tie.Need-returns-2
-returns-2 c =
-    let k = c.before.before.before.before in
-    let f = answer k c.enum-told2.given.1 in
+pub returns-in-ShortMap : goal.returns-in-ShortMap
+returns-in-ShortMap c = let k = (goal.at.returns-in-ShortMap c).After-surveyed-survey.before in
+    let f = answer k c.in-ShortMap.is in
     let e = fault_map (call k) (start k).requires (λ h. omega (arith, h, f.long)) f.short in
     let (p, q) = as_broken (call k) Reason-as-ShortMap e in
-    (sym p, (ap (λ m. areas_in (start k).args.lent (start k).args.area.now m) f.untouched ∙ sym q, (sym e, λ e. f.untouched)))
+    record { result_value = sym p; map_after = ap (λ m. areas_in (start k).args.lent (start k).args.area.now m) f.untouched ∙ sym q; result_value_2 = sym e; untouched_unless = λ e. f.untouched }
 
 -- where all is long enough
-fits : (c : tie.After-surveyed) {g : ℕ} → c.surveyed.result ≡ Fitted g → Fits (j c) (length (start c).args.area.now) (lent c) (before c) (after c) g
+fits : (c : lts.After-surveyed tie.the-claims reads.Pre reads.Post tie.handed_clauses) {g : ℕ} → c.surveyed-survey.result ≡ Fitted g → Fits (j c) (length (start c).args.area.now) (lent c) (before c) (after c) g
 fits c e = answer c e
 
-solved-requires : tie.Need-solved-requires
-solved-requires c κs =
-    let k = c.before.before.before.before.before.before in
-    let f = fits k c.before.before.survey.given.1 in
-    ((start k).requires, (k.before.before.before.variable-count.ensures, (k.before.before.equation-count.ensures, (f.components, f.long))))
+pub solved-requires : goal.solved-requires
+solved-requires c = let k = (goal.at.solved-requires c).After-surveyed-survey.before in
+    let f = fits k c.in-Mapped.is in
+    record { amendments_value = (start k).requires; n_value = c.variable_count-n.ensures; m_value = c.equation_count-m.ensures; g_value = f.components; amendments_in_bounds = f.long }
 
-returns-3 : tie.Need-returns-3
-returns-3 c =
-    let s = c.before.before in
-    let k = s.before.before.before.before.before.before.before in
-    let f = fits k s.before.before.before.survey.given.1 in
+pub returns-in-Mapped : goal.returns-in-Mapped
+returns-in-Mapped c = let k = (goal.at.returns-in-Mapped c).After-surveyed-survey.before in
+    let f = fits k c.in-Mapped.is in
     let e = fault_none (call k) (start k).requires (λ h. omega (arith, h, f.long)) f.map_long in
-    let (p, q) = as_fitting (call k) e in (
-      s.solved.ensures.0 ∙ sym p,
-      (
-        ap₂ areas_of s.solved.ensures.1.0 (ap (lent_as (lent k)) f.written ∙ mapped (structure (j k)) (fitting (j k)) (lent k) (before k) (fitting-Mapped (j k))) ∙ sym q,
-        (s.solved.ensures.1.1 ∙ sym e, λ e. f.written ∙ ap (λ t. cond t (over 0 (map_of (structure (j k))) (before k)) (before k)) e),
-      ),
-    )
-
-pub fitted-spec : {M : Type 1} → statement M
-fitted-spec =
-    tie.close
-    (tie.spec variable-count-requires equation-count-requires surveyed-requires (search rules) (search rules) (search rules) solved-requires (search rules)
-    returns (search rules) returns-2 (search rules) (search rules) returns-3)
+    let (p, q) = as_fitting (call k) e in record { result_value = c.solved.ensures.result_value ∙ sym p; map_after = ap₂ areas_of c.solved.ensures.area_after (ap (lent_as (lent k)) f.written ∙ mapped (structure (j k)) (fitting (j k)) (lent k) (before k) (fitting-Mapped (j k))) ∙ sym q; result_value_2 = c.solved.ensures.result_value_2 ∙ sym e; untouched_unless = λ e. f.written ∙ ap (λ t. cond t (over 0 (map_of (structure (j k))) (before k)) (before k)) e }

@@ -1,18 +1,16 @@
 -- `header` meets its contract: its fields stand behind each other.
 use mathlib.Core.Path.{◌≡◌, refl, ap}
 use Prim.Native.Nat.{ℕ, ◌+◌, ◌*◌, ◌≤◌}
-use borrow.Author.Rules.{rules}
 use mir.Facts.{to_z-of_z}
 use lib.ListN.{length}
 use Rattle.ints.proofs.{ℤ, List, arith}
-use Rattle.bytes.specs.LittleEndian.{bytes_of, signed_bytes}
+use Rattle.little_endian.specs.LittleEndian.{bytes_of, signed_bytes}
 use Rattle.jobs.specs.SheetLayout.{answer_mark, sheet_header}
-use Rattle.bytes.specs.Over.{over}
-use Rattle.bytes.proofs.LittleEndian.{length-bytes_of}
-use Rattle.bytes.proofs.TwosComplement.{length-signed_bytes}
-use Rattle.bytes.proofs.Over.{over_same, Written, behind_it}
-use Rattle.planner.proofs.sheet.header.Statement.{statement}
-use Rattle.planner.proofs.sheet.header.Tie as tie
+use Rattle.little_endian.specs.Over.{over}
+use Rattle.little_endian.proofs.LittleEndian.{length-bytes_of}
+use Rattle.little_endian.proofs.TwosComplement.{length-signed_bytes}
+use Rattle.little_endian.proofs.Over.{over_same, Written, behind_it}
+use Rattle.planner.proofs.sheet.header.Goals as goal
 
 -- the six fields
 row : (n g : ℕ) (objective : ℤ) (a l₁ l₂ l₃ l₄ l₅ l₆ : List ℕ) → 24 ≤ length a → l₁ ≡ over 0 answer_mark a → l₂ ≡ over 4 (bytes_of 2 n) l₁ → l₃ ≡ over 6 (bytes_of 2 g) l₂ →
@@ -26,26 +24,12 @@ row n g objective a l₁ l₂ l₃ l₄ l₅ l₆ h e₁ e₂ e₃ e₄ e₅ e�
     let w₅ = behind_it w₄ (omega arith) (bytes_of 4 (24 + 16 * n)) e₅ refl (length-bytes_of 4 (24 + 16 * n)) in
     (behind_it w₅ (omega arith) (signed_bytes 8 objective) e₆ refl (length-signed_bytes 8 objective)).is
 
-returns : tie.Need-returns
-returns c =
-    let q6 = c.before.before in
-    let q5 = q6.before.before.before.before in
-    let q4 = q5.before.before.before.before in
-    let q3 = q4.before.before.before.before in
-    let q2 = q3.before.before.before.before in
-    let q1 = q2.before.before.before.before in
-    let s = q1.before.before.before in
-    let x = s.args in
-    row x.n x.g x.objective x.area.now _ _ _ _ _ _ s.requires.1.1
-    q1.put.ensures
-    q2.put2.ensures
-    q3.put3.ensures
-    q4.put4.ensures
-    q5.put5.ensures
-    (over_same 16 _ _ (ap (signed_bytes 8) (to_z-of_z s.ranges.objective)) q6.put-i64.ensures)
-
-pub header-spec : {M : Type 1} → statement M
-header-spec =
-    tie.close
-    (tie.spec (search rules) (search rules) (search rules) (search rules) (search rules) (search rules) (search rules)
-    (search rules) (search rules) returns)
+pub returns : goal.returns
+returns c = let x = c.args in
+    row x.n x.g x.objective x.area.now _ _ _ _ _ _ c.requires.in_bounds
+    c.put.ensures
+    c.put-2.ensures
+    c.put-3.ensures
+    c.put-4.ensures
+    c.put-5.ensures
+    (over_same 16 _ _ (ap (signed_bytes 8) (to_z-of_z c.ranges.objective)) c.put_i64.ensures)

@@ -2,10 +2,9 @@
 use mathlib.Core.Path.{◌≡◌, refl, ◌∙◌, ap}
 use mathlib.Core.List.{List}
 use Prim.Native.Nat.{ℕ, ◌+◌, ◌*◌, ◌-◌, ◌≤◌}
-use borrow.Author.Rules.{rules}
 use borrow.Rule.Slice.PartMut.{mid_of, put_mid}
 use native.Mathlib.Omega.{arith}
-use lib.ListN.{length, get_or, drop, length-take, length-drop}
+use lib.ListN.{length, get_or}
 use lib.IntN.{ℤ}
 use mir.Facts.{to_z-of_z}
 use Rattle.lists.specs.Table.{Tabulates}
@@ -16,12 +15,12 @@ use Rattle.jobs.proofs.SheetFields.{length_header, length_variables, length_grou
 use Rattle.families.specs.ModelFindings.{leads_by, component_by}
 use Rattle.solver.specs.StateArrays.{label_in, run_in}
 use Rattle.solver.proofs.LowestVariables.{leads_length}
-use Rattle.bytes.specs.Over.{over}
+use Rattle.little_endian.specs.Over.{over}
 use Rattle.planner.specs.Choice.{chosen_in, findings_in}
-use Rattle.bytes.proofs.Over.{over_same, over_lent, Written, behind_it, length-over}
+use Rattle.little_endian.proofs.Over.{over_same, over_lent, Written, behind_it, length-over}
 use Rattle.planner.proofs.SheetRows.{variables_same}
-use Rattle.planner.proofs.sheet.write.Statement.{statement}
-use Rattle.planner.proofs.sheet.write.Tie as tie
+use Rattle.planner.proofs.sheet.write.Goals.{After-header, After-variables}
+use Rattle.planner.proofs.sheet.write.Goals as goal
 
 module _ (labels : List ℕ) (runs : List Run) (slopes numbers : List ℤ) (n g : ℕ) (objective : ℤ) (q : g ≡ length (leads_by (label_in labels) n)) where
   -- the variables' rows, with the numbers of the groups as they are found, and as the definition has them
@@ -54,69 +53,30 @@ module _ (labels : List ℕ) (runs : List Run) (slopes numbers : List ℤ) (n g 
       (behind_it w₂ (omega arith) rows_of_groups (over_lent (24 + 16 * n) rows_of_groups l₂ l₃ (omega (arith, long)) e₃) (omega arith)
       (length_groups (run_in runs) (chosen_in runs slopes) (number slopes) (leads_by (label_in labels) n))).is
 
-header-requires : tie.Need-header-requires
-header-requires c κs =
-    let s = c.before.before.before in
-    let p = s.requires.1.1.1.1.1 in
-    (s.requires.0, (omega (arith, p.0, leads_length (label_in s.args.labels) s.args.n), omega (arith, p.1)))
+pub header-requires : goal.header-requires
+header-requires c = record { n_bound = c.requires.n_bound; g_bound = omega (arith, c.requires.g_value, leads_length (label_in c.args.labels.now) c.args.n); in_bounds = omega (arith, c.requires.g_in_bounds) }
 
-headed : (c : tie.After-header) → let x = c.before.before.before.before.args in c.header.new.0 ≡ over 0 (sheet_header x.n x.g x.objective) x.area.now
-headed c = let s = c.before.before.before.before in over_same 0 _ _ (ap (sheet_header s.args.n s.args.g) (to_z-of_z s.ranges.objective)) c.header.ensures
+headed : (c : After-header) → let x = c.args in c.header.new.area ≡ over 0 (sheet_header x.n x.g x.objective) x.area.now
+headed c = over_same 0 _ _ (ap (sheet_header c.args.n c.args.g) (to_z-of_z c.ranges.objective)) c.header.ensures
 
-after_header : (c : tie.After-header) → length c.header.new.0 ≡ length c.before.before.before.before.args.area.now
+after_header : (c : After-header) → length c.header.new.area ≡ length c.args.area.now
 after_header c =
-    let s = c.before.before.before.before in
-    let x = s.args in
-    let p = s.requires.1.1.1.1.1 in
-    first_long x.labels x.runs x.slopes x.numbers x.n x.g x.objective p.0 x.area.now _ (omega (arith, p.1)) (headed c)
+    let x = c.args in
+    first_long x.labels.now x.runs.now x.slopes.now x.numbers.now x.n x.g x.objective c.requires.g_value x.area.now _ (omega (arith, c.requires.g_in_bounds)) (headed c)
 
-variables-requires : tie.Need-variables-requires
-variables-requires c κs =
-    let s = c.before.before.before.before.before.before.before in
-    let p = s.requires.1.1 in
-    (s.requires.0, (omega (arith, p.1.1.1.1, after_header c.before.before.before), (p.0.form, p.1.1.0)))
-
-after_variables : (c : tie.After-variables) → length c.variables.new.0 ≡ length c.before.before.before.before.before.before.before.before.args.area.now
+after_variables : (c : After-variables) → length c.variables.new.area ≡ length c.args.area.now
 after_variables c =
-    let q1 = c.before.before.before.before in
-    let s = q1.before.before.before.before in
-    let x = s.args in
-    let p = s.requires.1.1.1.1.1 in
-    second_long x.labels x.runs x.slopes x.numbers x.n x.g x.objective p.0 _ _ _ (omega (arith, after_header q1, p.1)) c.variables.ensures ∙ after_header q1
+    let q1 = c.before.before.before.before.before in
+    let x = c.args in
+    second_long x.labels.now x.runs.now x.slopes.now x.numbers.now x.n x.g x.objective c.requires.g_value _ _ _ (omega (arith, after_header q1, c.requires.g_in_bounds)) c.variables.ensures ∙ after_header q1
 
--- the part from the groups' rows on
-lent : (c : tie.After-variables) → let x = c.before.before.before.before.before.before.before.before.args in
-    length (mid_of (24 + 16 * x.n) (length c.variables.new.0 - (24 + 16 * x.n)) c.variables.new.0) ≡ length x.area.now - (24 + 16 * x.n)
-lent c =
-    let x = c.before.before.before.before.before.before.before.before.args in
-    let k = 24 + 16 * x.n in
-    let l = c.variables.new.0 in
-    omega (arith, length-take (length l - k) (drop k l), length-drop k l, after_variables c)
-
-group-rows-requires : tie.Need-group-rows-requires
-group-rows-requires c κs =
-    let s = c.before.before.before.before.before.before.before.before.before.before.before in
-    let p = s.requires.1.1.1 in
-    (s.requires.0, (omega (arith, p.1.1.0, p.1.1.1, lent c.before.before.before), p.0))
-
-returns : tie.Need-returns
-returns c =
-    let q3 = c.before.before in
-    let q2 = q3.before.before.before.before in
-    let q1 = q2.before.before.before.before in
-    let q0 = q1.before.before in
-    let s = q0.before.before in
-    let x = s.args in
-    let p = s.requires.1.1.1.1.1 in
-    whole x.labels x.runs x.slopes x.numbers x.n x.g x.objective p.0 q0.numbers.result x.area.now _ _ _ p.1
-    q0.numbers.ensures
+pub returns : goal.returns
+returns c = let q2 = (goal.at.returns c).After-variables in
+    let q1 = (goal.at.returns c).After-header in
+    let x = c.args in
+    whole x.labels.now x.runs.now x.slopes.now x.numbers.now x.n x.g x.objective c.requires.g_value c.numbers-components.result x.area.now _ _ _ c.requires.g_in_bounds
+    c.numbers-components.ensures
     (headed q1)
-    q2.variables.ensures
+    c.variables.ensures
     (after_variables q2)
-    q3.group-rows.ensures
-
-pub write_spec : {M : Type 1} → statement M
-write_spec =
-    tie.close
-    (tie.spec (λ c κs. search rules) header-requires variables-requires (search rules) (search rules) (search rules)
-    (search rules) (search rules) group-rows-requires (search rules) returns)
+    c.group_rows.ensures
