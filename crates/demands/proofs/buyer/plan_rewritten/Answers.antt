@@ -1,0 +1,15 @@
+-- `buyer::plan_rewritten` keeps the demand: every byte is the planner's.
+use mathlib.Core.Path.{◌∙◌}
+use Rattle.jobs.specs.Call.{call_of}
+use Rattle.jobs.specs.Demands.{CannotBeBettered}
+use Rattle.planner.specs.Outcome.{verdict_of}
+use Rattle.planner.specs.Lending.{areas_in}
+use Rattle.demands.proofs.Carried.{as_it_was, again}
+use Rattle.demands.proofs.buyer.plan_rewritten.Goals as goal
+
+pub returns : goal.returns
+returns c = let s = c.args in
+    as_it_was (CannotBeBettered (call_of s.job.now s.amendments.now (areas_in s.lent s.area.now s.map.now)) (verdict_of c.plan-outcome.result))
+    c.plan-outcome.ensures.plans.best
+    (again c.is_apart-apart.result c.put.new.area c.put-2.new.area 40 c.get-number.result c.get-number.ensures c.put-2.ensures
+    ∙ again c.is_planned-planned.result c.plan-outcome.new.area c.put.new.area 24 c.get-first.result c.get-first.ensures c.put.ensures)
