@@ -1,20 +1,51 @@
 //! Standard input for the test programs: text, and the whole numbers that stand in it.
+#![tactic(auto)]
 
-ghost use Rattle.io.specs.Counts.{IsPrefixLen};
+ghost use Rattle.std.specs.Prelude.{◌≢◌, IfErr};
+ghost use Rattle.std.specs.Io.{ReadsAtMost};
+ghost use Rattle.std.specs.IoError.{error_kind};
 
-use libc::STDIN_FILENO;
+use std::io;
+use std::io::{ErrorKind, Read};
 
 pub type Text = [u8; 16384];
 
-/// Reads the text, as far as there is room. What is given is its length.
-pub fn read(text: &mut Text) -> usize
-    ensures { IsPrefixLen result text.new }
+/// Reads the text, as far as there is room. What is given is its length. It fails as a read of standard input does, and in no other
+/// way; what the text has then is not told.
+pub fn read(rt: &impl Input, text: &mut Text) -> io::Result<usize>
+    ensures prefix { ReadsAtMost result text.new }
+    ensures retried { IfErr result (λ e. error_kind e ≢ ErrorKind.Interrupted) }
 {
-    io::read_full(STDIN_FILENO, text)
+    let mut reader = rt.reader();
+    read_full(&mut reader, text)
+}
+
+// Reads until there is no room left or the input ends. A read that a signal interrupts is tried again.
+fn read_full(reader: &mut impl Read, text: &mut [u8]) -> io::Result<usize>
+    ensures prefix { ReadsAtMost result text.new }
+    ensures retried { IfErr result (λ e. error_kind e ≢ ErrorKind.Interrupted) }
+{
+    let mut done = 0;
+    for _ in 0..u64::MAX {
+        if done >= text.len() {
+            return Ok(done);
+        }
+        match reader.read(&mut text[done..]) {
+            Ok(0) => return Ok(done),
+            Ok(n) => done += n,
+            Err(e) => {
+                if e.kind() != ErrorKind::Interrupted {
+                    return Err(e);
+                }
+            }
+        }
+    }
+    // 2^64 reads take longer than any machine lives.
+    Err(io::Error::from(ErrorKind::TimedOut))
 }
 
 /// The numbers that are read so far, in two's complement, and the one that is open. A minus sign stands just before its number.
-#[derive(Drop)]
+#[derive(Clone, Copy)]
 pub struct Numbers {
     at: [u64; 64],
     many: usize,

@@ -1,24 +1,22 @@
 //! Standard output for the programs: text and whole numbers.
+#![tactic(auto)]
 
-use libc::STDOUT_FILENO;
+use std::io;
 
-pub fn text(s: &[u8]) {
-    io::write_all(STDOUT_FILENO, s);
+pub fn text(rt: &impl Print, s: &[u8]) -> io::Result<()> {
+    rt.write_all(s)
 }
 
-pub fn number(x: i64) {
-    if x < 0 {
-        text(b"-");
-    }
-    count(ints::size(x));
+pub fn number(rt: &impl Print, x: i64) -> io::Result<()> {
+    print!(rt; "{x}")
 }
 
-pub fn count(n: u64) {
-    io::print_decimal(STDOUT_FILENO, n);
+pub fn count(rt: &impl Print, n: u64) -> io::Result<()> {
+    print!(rt; "{n}")
 }
 
 /// A count, and a text before it.
-pub fn counted(before: &[u8], n: u64) {
-    text(before);
-    count(n);
+pub fn counted(rt: &impl Print, before: &[u8], n: u64) -> io::Result<()> {
+    text(rt, before)?;
+    count(rt, n)
 }

@@ -1,4 +1,5 @@
 //! Pseudo-random numbers for the test programs.
+#![tactic(auto)]
 
 /// What a sequence starts from.
 pub const SEED: u64 = 88172645463325252;
@@ -12,5 +13,5 @@ pub fn next(x: u64) -> u64 {
 
 /// A number for x, so that neighbours have little in common.
 pub fn mixed(x: u64) -> u64 {
-    next(next(next(std::num::wrapping_add_u64(x, SEED))))
+    next(next(next(x.wrapping_add(SEED))))
 }
