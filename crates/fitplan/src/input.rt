@@ -1,13 +1,20 @@
 //! The program's words and what it reads: the job, from standard input, and its amendments, from a file.
 
-ghost use Rattle.io.specs.Counts.{IsPrefixLen};
+ghost use Rattle.std.specs.Prelude.{◌≢◌, IfErr};
+ghost use Rattle.std.specs.Io.{ReadsAtMost};
+ghost use Rattle.std.specs.IoError.{error_kind};
 
-use libc::STDIN_FILENO;
+use std::env::FillError;
+use std::fs::File;
+use std::io;
+use std::io::{ErrorKind, Read};
+use std::rt::{Env, Files};
 
 /// Is a map asked for? The first word is `map`, or at least begins like it.
-pub(crate) fn asks_for_map() -> bool {
+pub(crate) fn asks_for_map(rt: &impl Env) -> bool {
     let mut word = [0u8; 1];
-    os::arg(1, &mut word);
+    // A longer word leaves its first byte too.
+    let _ = rt.arg(1, &mut word);
     word[0] == b'm'
 }
 
@@ -16,49 +23,78 @@ pub(crate) fn asks_for_map() -> bool {
 /// `crates/jobs/proofs/LongInput.antt`: verdict and areas are the same).
 pub type Buffer = [u8; 23577];
 
-/// Reads until the input ends, a read fails or the buffer is full, and gives how many bytes there are.
-pub(crate) fn read(b: &mut Buffer) -> usize
-    ensures { IsPrefixLen result b.new }
+/// Reads until the input ends or the buffer is full, and gives how many bytes there are.
+pub(crate) fn read(rt: &impl Input, b: &mut Buffer) -> io::Result<usize>
+    ensures prefix { ReadsAtMost result b.new }
+    ensures retried { IfErr result (λ e. error_kind e ≢ ErrorKind.Interrupted) }
 {
-    io::read_full(STDIN_FILENO, b)
+    let mut reader = rt.reader();
+    read_full(&mut reader, b)
 }
 
 /// One byte more than the most amendments, 20·512 bytes. Of a longer file so much is enough: where the job is not refused, it is, for its
 /// length (`longer_same`).
 pub type Amendments = [u8; 10241];
 
-/// The file that the second word names, opened for reading: -1 where there is no such word, and so no amendments; -2 where it cannot be
-/// opened, which is told on standard error.
-pub(crate) fn open_amendments() -> i32 {
-    if os::arg_count() < 3 {
-        return -1;
+/// The file that the second word names, opened for reading, or `None` where there is no such word, and so no amendments. Where it cannot
+/// be opened, that is told on standard error.
+pub(crate) fn open_amendments<R: Env + Files + Eprint>(rt: &R) -> io::Result<Option<R::File>> {
+    let mut path = [0u8; 4096];
+    let length = match rt.arg(2, &mut path) {
+        Ok(length) => length,
+        Err(FillError::NotPresent) => return Ok(None),
+        Err(FillError::TooLong) => return told(rt, "amendments", ErrorKind::InvalidFilename.into()),
+    };
+    // A path of std's is text.
+    let Ok(path) = std::str::from_utf8(&path[..length]) else {
+        return told(rt, "amendments", ErrorKind::InvalidFilename.into());
+    };
+    match File::open(rt, path) {
+        Ok(file) => Ok(Some(file)),
+        Err(e) => told(rt, path, e),
     }
-    let mut path = io::buffer();
-    let length = os::arg(2, &mut path);
-    let file = os::open_read(&path[..length]);
-    if file < 0 {
-        os::fail(&path[..length]);
-        return -2;
-    }
-    file
 }
 
-/// Reads an open file as `read` does the input; of -1 there is nothing to read.
-pub(crate) fn read_amendments(file: i32, b: &mut Amendments) -> usize
-    ensures { IsPrefixLen result b.new }
+// The error, after it is told on standard error.
+fn told<T>(rt: &impl Eprint, name: &str, e: io::Error) -> io::Result<T> {
+    eprintln!(rt; "{name}: {e}")?;
+    Err(e)
+}
+
+/// Reads an open file as `read` does the input; where there is none there is nothing to read.
+pub(crate) fn read_amendments(
+    file: Option<impl Read + Drop>,
+    b: &mut Amendments,
+) -> io::Result<usize>
+    ensures prefix { ReadsAtMost result b.new }
+    ensures retried { IfErr result (λ e. error_kind e ≢ ErrorKind.Interrupted) }
 {
-    io::read_full(file, b)
+    match file {
+        Some(mut file) => read_full(&mut file, b),
+        None => Ok(0),
+    }
 }
 
-/// Did that stop at a read that fails, as every read of a directory does? Then so does one more. It is told on standard error.
-pub(crate) fn has_failed(file: i32) -> bool {
-    if file < 0 {
-        return false;
+// Reads until the buffer is full or the input ends. A read that a signal interrupts is tried again.
+fn read_full(reader: &mut impl Read, b: &mut [u8]) -> io::Result<usize>
+    ensures prefix { ReadsAtMost result b.new }
+    ensures retried { IfErr result (λ e. error_kind e ≢ ErrorKind.Interrupted) }
+{
+    let mut done = 0;
+    for _ in 0..u64::MAX {
+        if done >= b.len() {
+            return Ok(done);
+        }
+        match reader.read(&mut b[done..]) {
+            Ok(0) => return Ok(done),
+            Ok(n) => done += n,
+            Err(e) => {
+                if e.kind() != ErrorKind::Interrupted {
+                    return Err(e);
+                }
+            }
+        }
     }
-    let mut byte = [0u8; 1];
-    if 0 <= libc::read(file, &mut byte) {
-        return false;
-    }
-    os::fail(b"amendments");
-    true
+    // 2^64 reads take longer than any machine lives.
+    Err(io::Error::from(ErrorKind::TimedOut))
 }

@@ -1,12 +1,14 @@
 //! A line of output.
 
-ghost use Rattle.std.specs.Prelude.{◌≤◌};
+ghost use Rattle.std.specs.Prelude.{◌≤◌, IfOk};
 
 use crate::page;
 use crate::page::Page;
+use itoa::Buffer;
+use std::io;
 
 /// The longest is that of a variable: 75 bytes with its end, at three numbers of 11 bytes.
-#[derive(Drop)]
+#[derive(Clone, Copy)]
 pub struct Line {
     bytes: [u8; 80],
     len: usize,
@@ -37,18 +39,15 @@ impl Line {
 
     pub(crate) fn text(self, s: &[u8]) -> Line {
         let mut line = self;
-        let mut i: usize = 0;
-        while i < s.len() {
-            line = line.byte(s[i]);
-            i += 1;
+        for x in s {
+            line = line.byte(*x);
         }
         line
     }
 
     pub(crate) fn count(self, n: u64) -> Line {
-        let mut digits = [0u8; 20];
-        let many = io::decimal(n, &mut digits);
-        self.text(&digits[..many])
+        let mut digits = Buffer::new();
+        self.text(digits.format(n).as_bytes())
     }
 
     pub(crate) fn number(self, x: i64) -> Line {
@@ -59,12 +58,12 @@ impl Line {
     }
 
     /// Puts it on the page, with its end, and gives how many bytes the page has then.
-    pub(crate) fn end(self, page: &mut Page, used: usize) -> usize
+    pub(crate) fn end(self, rt: &impl Print, page: &mut Page, used: usize) -> io::Result<usize>
         requires { used ≤ 16384 }
-        ensures { result ≤ 16384 }
+        ensures { IfOk result (λ end. end ≤ 16384) }
     {
         let line = self.byte(b'\n');
         let bytes = line.bytes;
-        page::add(page, used, &bytes, line.len)
+        page::add(rt, page, used, &bytes, line.len)
     }
 }

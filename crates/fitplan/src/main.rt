@@ -3,8 +3,10 @@
 //!     fitplan [plan|map [AMENDMENTS]] <JOB
 //!
 //! With the word `map` the map stands behind it. AMENDMENTS is a file with the job's amendments.
+#![tactic(auto)]
 
 use planner::Lent;
+use std::io;
 
 // the program's words, the job and its amendments
 mod input;
@@ -17,24 +19,23 @@ mod report;
 // what is printed of a map
 mod map;
 
-fn main() {
+fn main(rt: HostRuntime) -> io::Result<()> {
     let mut job: input::Buffer = [0; 23577];
     let mut amendments: input::Amendments = [0; 10241];
     let mut area: report::Area = [0; 8216];
     let mut shown: map::Area = [0; 5144];
     let mut page: page::Page = [0; 16384];
     let lent = Lent {
-        map: input::asks_for_map(),
+        map: input::asks_for_map(&rt),
     };
-    let file = input::open_amendments();
-    if file == -2 {
-        return;
-    }
-    let sheets = input::read_amendments(file, &mut amendments);
-    if input::has_failed(file) {
-        return;
-    }
-    let length = input::read(&mut job);
+    let Ok(file) = input::open_amendments(&rt) else {
+        return Ok(());
+    };
+    let sheets = match input::read_amendments(file, &mut amendments) {
+        Ok(sheets) => sheets,
+        Err(e) => return eprintln!(rt; "amendments: {e}"),
+    };
+    let length = input::read(&rt, &mut job)?;
     let outcome = planner::plan(
         &job[..length],
         &amendments[..sheets],
@@ -42,7 +43,7 @@ fn main() {
         &mut shown,
         lent,
     );
-    let used = report::show(outcome, &area, &mut page, 0);
-    let used = map::show(lent, outcome, &shown, &mut page, used);
-    page::write(&page, used);
+    let used = report::show(&rt, outcome, &area, &mut page, 0)?;
+    let used = map::show(&rt, lent, outcome, &shown, &mut page, used)?;
+    page::write(&rt, &page, used)
 }

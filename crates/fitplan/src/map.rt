@@ -1,39 +1,47 @@
 //! What is printed of a map: a line for its header, for each count and for each equation, read off its bytes.
 
-ghost use Rattle.std.specs.Prelude.{◌≤◌, ◌<◌};
+ghost use Rattle.std.specs.Prelude.{◌≤◌, ◌<◌, IfOk};
 
 use crate::line;
 use crate::line::Line;
 use crate::page::Page;
 use planner::{Lent, Outcome};
+use std::io;
 
 /// As long as the longest map: 24 + 4·256 + 4·1,024.
 pub type Area = [u8; 5144];
 
 /// Nothing where no map is lent or the job is refused: then there is none.
-pub(crate) fn show(lent: Lent, outcome: Outcome, area: &Area, page: &mut Page, used: usize) -> usize
+pub(crate) fn show(
+    rt: &impl Print,
+    lent: Lent,
+    outcome: Outcome,
+    area: &Area,
+    page: &mut Page,
+    used: usize,
+) -> io::Result<usize>
     requires { used ≤ 16384 }
-    ensures { result ≤ 16384 }
+    ensures { IfOk result (λ end. end ≤ 16384) }
 {
     if !lent.map {
-        return used;
+        return Ok(used);
     }
     match outcome {
-        Outcome::Planned(_) => map(area, page, used),
-        Outcome::NoFit(_) => map(area, page, used),
-        Outcome::Refused(_) => used,
+        Outcome::Planned(_) => map(rt, area, page, used),
+        Outcome::NoFit(_) => map(rt, area, page, used),
+        Outcome::Refused(_) => Ok(used),
     }
 }
 
-fn map(area: &Area, page: &mut Page, used: usize) -> usize
+fn map(rt: &impl Print, area: &Area, page: &mut Page, used: usize) -> io::Result<usize>
     requires { used ≤ 16384 }
-    ensures { result ≤ 16384 }
+    ensures { IfOk result (λ end. end ≤ 16384) }
 {
     let n = row_count(area, 4, 256);
     let m = row_count(area, 6, 1024);
-    let g = bytes::u16_at(area, 16);
-    let used = header(n as u64, m as u64, g).end(page, used);
-    rows(area, n, n + m, page, used)
+    let g = little_endian::u16_at(area, 16);
+    let used = header(n as u64, m as u64, g).end(rt, page, used)?;
+    rows(rt, area, n, n + m, page, used)
 }
 
 fn header(n: u64, m: u64, g: u64) -> Line {
@@ -51,23 +59,30 @@ fn row_count(area: &Area, field: usize, most: usize) -> usize
     requires { field ≤ 6 }
     ensures { result ≤ most }
 {
-    let many = bytes::u16_at(area, field) as usize;
+    let many = little_endian::u16_at(area, field) as usize;
     if many < most { many } else { most }
 }
 
 // A line for each row: n of variables, and the others of equations.
-fn rows(area: &Area, n: usize, all: usize, page: &mut Page, used: usize) -> usize
+fn rows(
+    rt: &impl Print,
+    area: &Area,
+    n: usize,
+    all: usize,
+    page: &mut Page,
+    used: usize,
+) -> io::Result<usize>
     requires all_bound { all ≤ 1280 }
     requires used_bound { used ≤ 16384 }
-    ensures { result ≤ 16384 }
+    ensures { IfOk result (λ end. end ≤ 16384) }
 {
     let mut end = used;
     let mut i: usize = 0;
     while i < all {
-        end = row(area, n, i).end(page, end);
+        end = row(area, n, i).end(rt, page, end)?;
         i += 1;
     }
-    end
+    Ok(end)
 }
 
 // Rows of counts and of equations take 4 bytes, and stand one behind the other.
@@ -89,9 +104,9 @@ fn variable(area: &Area, i: usize, at: usize) -> Line
         .text(b"map count ")
         .count(i as u64)
         .text(b" group ")
-        .count(bytes::u16_at(area, at))
+        .count(little_endian::u16_at(area, at))
         .text(b" equations ")
-        .count(bytes::u16_at(area, at + 2))
+        .count(little_endian::u16_at(area, at + 2))
 }
 
 fn equation(area: &Area, k: usize, at: usize) -> Line
@@ -101,9 +116,9 @@ fn equation(area: &Area, k: usize, at: usize) -> Line
         .text(b"map equation ")
         .count(k as u64)
         .text(b" group ")
-        .count(bytes::u16_at(area, at))
+        .count(little_endian::u16_at(area, at))
         .text(b" kind ");
-    kind(front, bytes::u16_at(area, at + 2))
+    kind(front, little_endian::u16_at(area, at + 2))
 }
 
 fn kind(front: Line, kind: u64) -> Line {

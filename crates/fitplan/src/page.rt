@@ -1,33 +1,42 @@
 //! A page of output: lines are collected on it and written together, since a write for each takes longer than the line itself.
 
-ghost use Rattle.std.specs.Prelude.{◌≡◌, ◌+◌, ◌≤◌, length};
+ghost use Rattle.std.specs.Prelude.{◌≡◌, ◌+◌, ◌≤◌, length, IfOk, OnErr};
 ghost use Rattle.std.proofs.Math.Seq.{paste};
+
+use std::io;
 
 /// Holds some 270 lines of a sheet.
 pub type Page = [u8; 16384];
 
 /// Puts the first bytes of a line behind those that the page has, and gives how many it has then. Where the longest line would not fit,
 /// the page is written first and begun anew.
-pub(crate) fn add(page: &mut Page, used: usize, line: &[u8; 80], len: usize) -> usize
+pub(crate) fn add(
+    rt: &impl Print,
+    page: &mut Page,
+    used: usize,
+    line: &[u8; 80],
+    len: usize,
+) -> io::Result<usize>
     requires used_bound { used ≤ 16384 }
     requires len_bound { len ≤ 80 }
-    ensures { result ≤ 16384 }
+    ensures bound { IfOk result (λ end. end ≤ 16384) }
+    ensures unwritten { OnErr result (page.new ≡ page.old) }
 {
-    let at = room(page, used);
+    let at = room(rt, page, used)?;
     copy(line, len, page, at);
-    at + len
+    Ok(at + len)
 }
 
 // Where a line of up to 80 bytes fits.
-fn room(page: &Page, used: usize) -> usize
+fn room(rt: &impl Print, page: &Page, used: usize) -> io::Result<usize>
     requires { used ≤ 16384 }
-    ensures { result ≤ 16304 }
+    ensures { IfOk result (λ at. at ≤ 16304) }
 {
     if used <= 16304 {
-        return used;
+        return Ok(used);
     }
-    write(page, used);
-    0
+    write(rt, page, used)?;
+    Ok(0)
 }
 
 // The rest of the page stays as it was.
@@ -44,15 +53,15 @@ fn copy(line: &[u8], len: usize, page: &mut [u8], at: usize)
 }
 
 /// Writes what the page has.
-pub(crate) fn write(page: &Page, used: usize)
+pub(crate) fn write(rt: &impl Print, page: &Page, used: usize) -> io::Result<()>
     requires { used ≤ 16384 }
 {
-    print_part(page, used);
+    print_part(rt, page, used)
 }
 
 // By itself, as the prover covers a part of a slice, and none of an array behind a reference.
-fn print_part(page: &[u8], used: usize)
+fn print_part(rt: &impl Print, page: &[u8], used: usize) -> io::Result<()>
     requires { used ≤ length page.now }
 {
-    print::text(&page[0..used]);
+    print::text(rt, &page[0..used])
 }

@@ -1,24 +1,31 @@
 //! What is printed of a plan, as document 01 shows it. A sheet's lines are read off its bytes.
 
-ghost use Rattle.std.specs.Prelude.{◌≤◌, ◌<◌};
+ghost use Rattle.std.specs.Prelude.{◌≤◌, ◌<◌, IfOk};
 
 use crate::line;
 use crate::line::Line;
 use crate::page::Page;
 use planner::Outcome;
 use reasons::Reason;
+use std::io;
 
 /// As long as the longest sheet: 24 + 16·256 + 16·256.
 pub type Area = [u8; 8216];
 
-pub(crate) fn show(outcome: Outcome, area: &Area, page: &mut Page, used: usize) -> usize
+pub(crate) fn show(
+    rt: &impl Print,
+    outcome: Outcome,
+    area: &Area,
+    page: &mut Page,
+    used: usize,
+) -> io::Result<usize>
     requires { used ≤ 16384 }
-    ensures { result ≤ 16384 }
+    ensures { IfOk result (λ end. end ≤ 16384) }
 {
     match outcome {
-        Outcome::Planned(_) => sheet(area, page, used),
-        Outcome::NoFit(variable) => no_fit(variable).end(page, used),
-        Outcome::Refused(reason) => refused(reason).end(page, used),
+        Outcome::Planned(_) => sheet(rt, area, page, used),
+        Outcome::NoFit(variable) => no_fit(variable).end(rt, page, used),
+        Outcome::Refused(reason) => refused(reason).end(rt, page, used),
     }
 }
 
@@ -36,15 +43,18 @@ fn refused(reason: Reason) -> Line {
         .count(reason.row() as u64)
 }
 
-fn sheet(area: &Area, page: &mut Page, used: usize) -> usize
+fn sheet(rt: &impl Print, area: &Area, page: &mut Page, used: usize) -> io::Result<usize>
     requires { used ≤ 16384 }
-    ensures { result ≤ 16384 }
+    ensures { IfOk result (λ end. end ≤ 16384) }
 {
-    let worth = bytes::i64_at(area, 16);
+    let worth = little_endian::i64_at(area, 16);
     let n = row_count(area, 4);
     let g = row_count(area, 6);
-    let used = line::start().text(b"worth ").number(worth).end(page, used);
-    rows(area, n, n + g, page, used)
+    let used = line::start()
+        .text(b"worth ")
+        .number(worth)
+        .end(rt, page, used)?;
+    rows(rt, area, n, n + g, page, used)
 }
 
 // How many rows a field of the header says there are: 256 at most.
@@ -52,23 +62,30 @@ fn row_count(area: &Area, field: usize) -> usize
     requires { field ≤ 6 }
     ensures { result ≤ 256 }
 {
-    let many = bytes::u16_at(area, field);
+    let many = little_endian::u16_at(area, field);
     if many < 256 { many as usize } else { 256 }
 }
 
 // A line for each row: n of variables, and the others of groups.
-fn rows(area: &Area, n: usize, all: usize, page: &mut Page, used: usize) -> usize
+fn rows(
+    rt: &impl Print,
+    area: &Area,
+    n: usize,
+    all: usize,
+    page: &mut Page,
+    used: usize,
+) -> io::Result<usize>
     requires all_bound { all ≤ 512 }
     requires used_bound { used ≤ 16384 }
-    ensures { result ≤ 16384 }
+    ensures { IfOk result (λ end. end ≤ 16384) }
 {
     let mut end = used;
     let mut i: usize = 0;
     while i < all {
-        end = row(area, n, i).end(page, end);
+        end = row(area, n, i).end(rt, page, end)?;
         i += 1;
     }
-    end
+    Ok(end)
 }
 
 // Both kinds take 16 bytes, and stand one behind the other.
@@ -86,10 +103,10 @@ fn row(area: &Area, n: usize, i: usize) -> Line
 fn variable(area: &Area, i: usize, at: usize) -> Line
     requires { at ≤ 8200 }
 {
-    let number = bytes::i32_at(area, at);
-    let base = bytes::i32_at(area, at + 4);
-    let step = bytes::i32_at(area, at + 8);
-    let group = bytes::u16_at(area, at + 12);
+    let number = little_endian::i32_at(area, at);
+    let base = little_endian::i32_at(area, at + 4);
+    let step = little_endian::i32_at(area, at + 8);
+    let group = little_endian::u16_at(area, at + 12);
     line::start()
         .text(b"count ")
         .count(i as u64)
@@ -106,9 +123,9 @@ fn variable(area: &Area, i: usize, at: usize) -> Line
 fn group(area: &Area, i: usize, at: usize) -> Line
     requires { at ≤ 8200 }
 {
-    let fits = bytes::u32_at(area, at);
-    let chosen = bytes::u32_at(area, at + 4);
-    let gain = bytes::i64_at(area, at + 8);
+    let fits = little_endian::u32_at(area, at);
+    let chosen = little_endian::u32_at(area, at + 4);
+    let gain = little_endian::i64_at(area, at + 8);
     line::start()
         .text(b"group ")
         .count(i as u64)
