@@ -1,8 +1,9 @@
-//! The planner for a host in C: every entry that the archive exports, and nothing else. Each gives a struct by value; a field that does
-//! not apply is 0.
+//! The planner for a host in C: what each entry of the archive gives. Each gives a struct by value; a field that does not apply is 0.
+//! The crate `host_c` exports them.
 //!
 //! Read `specs/Answers.antt`, which says what each struct is for each answer, beside this file. `host/fitplan.h` declares the same for C,
 //! and nothing checks the one against the other: change both.
+#![tactic(auto)]
 
 ghost use Rattle.std.specs.Prelude.{◌≡◌, []};
 ghost use Rattle.ints.specs.Division.{division};
@@ -21,7 +22,7 @@ mod answers;
 /// What a planning call gives. `kind` is 1 planned, 2 no fit, 3 refused; `worth` is of the plan, `count` the lowest count of the first group
 /// without a fit-out, `reason` and `row` those of the refusal.
 #[repr(C)]
-#[derive(Drop)]
+#[derive(Clone, Copy)]
 pub struct FitOutcome {
     pub kind: u32,
     pub count: u32,
@@ -32,7 +33,7 @@ pub struct FitOutcome {
 
 /// What the checks give: reason 0 where nothing is refused.
 #[repr(C)]
-#[derive(Drop)]
+#[derive(Clone, Copy)]
 pub struct FitChecked {
     pub reason: u32,
     pub row: u32,
@@ -40,7 +41,7 @@ pub struct FitChecked {
 
 /// What division gives: reason 0 where there is a quotient.
 #[repr(C)]
-#[derive(Drop)]
+#[derive(Clone, Copy)]
 pub struct FitQuotient {
     pub reason: u32,
     pub row: u32,
@@ -49,7 +50,7 @@ pub struct FitQuotient {
 
 /// A run: a first number, a step and how many.
 #[repr(C)]
-#[derive(Drop)]
+#[derive(Clone, Copy)]
 pub struct FitRun {
     pub first: i64,
     pub step: i64,
@@ -58,7 +59,7 @@ pub struct FitRun {
 
 /// What meeting and carrying give: reason 0 where there is a run.
 #[repr(C)]
-#[derive(Drop)]
+#[derive(Clone, Copy)]
 pub struct FitWorking {
     pub reason: u32,
     pub row: u32,
@@ -67,8 +68,7 @@ pub struct FitWorking {
 
 /// Plans a job with its amendments. The lowest bit of `lent` says that the map area is lent; the others say nothing. Its name changes with
 /// its parameters, so that a host compiled for others does not link.
-#[unsafe(no_mangle)]
-pub extern "C" fn fit_plan_v2(
+pub fn fit_plan_v2(
     job: &[u8],
     amendments: &[u8],
     area: &mut [u8],
@@ -83,40 +83,35 @@ pub extern "C" fn fit_plan_v2(
 }
 
 /// The job check: as the planner through reason 7.
-#[unsafe(no_mangle)]
-pub extern "C" fn fit_check(job: &[u8]) -> FitChecked
+pub fn fit_check(job: &[u8]) -> FitChecked
     ensures { result ≡ checked_for (checked job.now []) }
 {
     answers::checked_for(jobs::check(job))
 }
 
 /// The check of a job and its amendments: as the planner through the amendments' reasons, 11, 12, 13 and 5.
-#[unsafe(no_mangle)]
-pub extern "C" fn fit_check_amendments(job: &[u8], amendments: &[u8]) -> FitChecked
+pub fn fit_check_amendments(job: &[u8], amendments: &[u8]) -> FitChecked
     ensures { result ≡ checked_for (checked job.now amendments.now) }
 {
     answers::checked_for(jobs::check_amended(job, amendments))
 }
 
 /// n / d rounded towards the lower whole number.
-#[unsafe(no_mangle)]
-pub extern "C" fn fit_divide(n: i64, d: i64) -> FitQuotient
+pub fn fit_divide(n: i64, d: i64) -> FitQuotient
     ensures { result ≡ quotient_for (division n d) }
 {
     answers::quotient_for(ints::divide(n, d))
 }
 
 /// The run of the numbers in both runs.
-#[unsafe(no_mangle)]
-pub extern "C" fn fit_meet(a: FitRun, b: FitRun) -> FitWorking
+pub fn fit_meet(a: FitRun, b: FitRun) -> FitWorking
     ensures { result ≡ working_for (meeting (run_for a) (run_for b)) }
 {
     answers::working_for(runs::meeting(answers::run_for(a), answers::run_for(b)))
 }
 
 /// The run of all p that have a partner q in the run, with a·p + b·q = c.
-#[unsafe(no_mangle)]
-pub extern "C" fn fit_carry(a: i64, b: i64, c: i64, q: FitRun) -> FitWorking
+pub fn fit_carry(a: i64, b: i64, c: i64, q: FitRun) -> FitWorking
     ensures { result ≡ working_for (carrying (equation_for a b c) (run_for q)) }
 {
     let e = Equation { a: a, b: b, c: c };
