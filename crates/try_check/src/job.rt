@@ -20,13 +20,11 @@ const MARK: u64 = 827607366;
 /// Writes it.
 pub(crate) fn write(b: &mut Buffer, t: Numbers) {
     lawful(b, (t.get(0) % 65536) as u16, (t.get(1) % 65536) as u16);
-    let mut i: usize = 3;
-    while i < 64 {
+    for i in (3..64).step_by(3) {
         if i < t.count() {
             let at = (t.get(i) % 65536) as u32;
             put(b, at, (t.get(i + 1) % 9) as u32, t.get(i + 2));
         }
-        i += 3;
     }
 }
 
@@ -42,10 +40,8 @@ fn lawful(b: &mut Buffer, n: u16, m: u16) {
 }
 
 fn rows(b: &mut Buffer, start: u32, length: u32) {
-    let mut at: u32 = 24;
-    while at < length {
+    for at in 24..length {
         store(b, at as usize, row_byte(at, start));
-        at += 1;
     }
 }
 
@@ -60,11 +56,9 @@ fn row_byte(at: u32, start: u32) -> u8 {
 // The lowest bytes of x, the lowest first.
 fn put(b: &mut Buffer, at: u32, width: u32, x: u64) {
     let mut rest = x;
-    let mut i: u32 = 0;
-    while i < width {
+    for i in 0..width {
         store(b, at as usize + i as usize, (rest % 256) as u8);
         rest = rest / 256;
-        i += 1;
     }
 }
 

@@ -1,16 +1,18 @@
 //! Runs the job check: every reason and every limit of document 01's table, and the order of its lines. Standard input is printed as it
 //! is, with the check's answer in the place of each job. The expected output is not taken from the program: it was worked out from
 //! document 01.
+#![tactic(auto)]
 
 use input::Text;
+use std::io;
 
 // the job of some numbers
 mod job;
 // what is printed
 mod report;
 
-fn main() {
+fn main(rt: HostRuntime) -> io::Result<()> {
     let mut text: Text = [0; 16384];
-    let length = input::read(&mut text);
-    report::run(&text[..length]);
+    let length = input::read(&rt, &mut text)?;
+    report::run(&rt, &text[..length])
 }

@@ -4,54 +4,52 @@ use crate::job;
 use crate::job::Buffer;
 use input::Numbers;
 use jobs::Checked;
+use std::io;
 
-pub(crate) fn run(text: &[u8]) {
+pub(crate) fn run(rt: &impl Print, text: &[u8]) -> io::Result<()> {
     let mut b: Buffer = [0; 23608];
     let mut read = input::none();
     let mut from: usize = 0;
-    let mut i: usize = 0;
-    while i < text.len() {
+    for i in 0..text.len() {
         let x = text[i];
         read = read.next(x);
         if x == b'{' {
-            show(&text[0..i], from);
+            show(rt, &text[..i], from)?;
             read = input::none();
         }
-        i += 1;
         if x == b'}' {
-            answer(&mut b, read);
-            from = i;
+            answer(rt, &mut b, read)?;
+            from = i + 1;
         }
     }
-    show(text, from);
+    show(rt, text, from)
 }
 
 // The text from a place on.
-fn show(text: &[u8], from: usize) {
+fn show(rt: &impl Print, text: &[u8], from: usize) -> io::Result<()> {
     if from <= text.len() {
-        print::text(&text[from..]);
+        rt.write_all(&text[from..])?;
     }
+    Ok(())
 }
 
 // Fewer than three numbers are no job.
-fn answer(b: &mut Buffer, t: Numbers) {
+fn answer(rt: &impl Print, b: &mut Buffer, t: Numbers) -> io::Result<()> {
     if 2 < t.count() {
         job::write(b, t);
-        ask(b, t.get(2));
+        ask(rt, b, t.get(2))?;
     }
+    Ok(())
 }
 
 // The answer for the first bytes of the buffer.
-fn ask(b: &[u8], length: u64) {
+fn ask(rt: &impl Print, b: &[u8], length: u64) -> io::Result<()> {
     let end = length as usize;
-    if end <= b.len() {
-        let checked = jobs::check(&b[0..end]);
-        match checked {
-            Checked::Accepted => print::text(b"accepted"),
-            Checked::Refused(r) => {
-                print::count(r.number() as u64);
-                print::counted(b" row ", r.row() as u64);
-            }
-        }
+    if b.len() < end {
+        return Ok(());
+    }
+    match jobs::check(&b[..end]) {
+        Checked::Accepted => print!(rt; "accepted"),
+        Checked::Refused(r) => print!(rt; "{} row {}", r.number(), r.row()),
     }
 }

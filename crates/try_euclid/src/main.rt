@@ -1,124 +1,115 @@
 //! Runs the entry for the greatest common divisor: pairs worked out by hand, every refusal, then all pairs of numbers up to 300
 //! against a search for the divisor and remainders by subtraction.
+#![tactic(auto)]
 
 ghost use Rattle.std.specs.Prelude.{◌<◌, ◌≤◌};
 
 use euclid::CommonDivisor;
+use std::io;
 
-fn main() {
-    vectors();
-    refusals();
-    let t = small_pairs();
-    print::counted(b"small pairs ", t.agree);
-    print::counted(b" agree, divisions ", t.divisions);
-    print::counted(b", factors add up to ", t.factors);
-    print::text(b"\n");
+fn main(rt: HostRuntime) -> io::Result<()> {
+    vectors(&rt)?;
+    refusals(&rt)?;
+    let Tally {
+        agree,
+        divisions,
+        factors,
+    } = small_pairs(&rt)?;
+    println!(rt; "small pairs {agree} agree, divisions {divisions}, factors add up to {factors}")
 }
 
 // Equal numbers; 1 and b; a and 1; multiples; the first the smaller; either sign; the limit. Consecutive Fibonacci numbers take the
 // most divisions for their size, and these are the last two below 1,000,000.
-fn vectors() {
-    show(7, 7);
-    show(1, 1);
-    show(1, 1000000);
-    show(1000000, 1);
-    show(2, 1);
-    show(1, 2);
-    show(36, 12);
-    show(12, 36);
-    show(2, 1000000);
-    show(48, 18);
-    show(18, 48);
-    show(-48, 18);
-    show(48, -18);
-    show(-48, -18);
-    show(17, 12);
-    show(12, 17);
-    show(-17, 12);
-    show(1000000, 600000);
-    show(999999, 1000000);
-    show(1000000, 999999);
-    show(1000000, -1000000);
-    show(832040, 514229);
-    show(514229, 832040);
-    show(-514229, -832040);
+fn vectors(rt: &impl Print) -> io::Result<()> {
+    show(rt, 7, 7)?;
+    show(rt, 1, 1)?;
+    show(rt, 1, 1000000)?;
+    show(rt, 1000000, 1)?;
+    show(rt, 2, 1)?;
+    show(rt, 1, 2)?;
+    show(rt, 36, 12)?;
+    show(rt, 12, 36)?;
+    show(rt, 2, 1000000)?;
+    show(rt, 48, 18)?;
+    show(rt, 18, 48)?;
+    show(rt, -48, 18)?;
+    show(rt, 48, -18)?;
+    show(rt, -48, -18)?;
+    show(rt, 17, 12)?;
+    show(rt, 12, 17)?;
+    show(rt, -17, 12)?;
+    show(rt, 1000000, 600000)?;
+    show(rt, 999999, 1000000)?;
+    show(rt, 1000000, 999999)?;
+    show(rt, 1000000, -1000000)?;
+    show(rt, 832040, 514229)?;
+    show(rt, 514229, 832040)?;
+    show(rt, -514229, -832040)
 }
 
-fn refusals() {
-    show(0, 5);
-    show(5, 0);
-    show(0, 0);
-    show(1000001, 5);
-    show(5, 1000001);
-    show(-1000001, 5);
-    show(5, -1000001);
-    show(-9223372036854775808, 1);
-    show(1, 9223372036854775807);
+fn refusals(rt: &impl Print) -> io::Result<()> {
+    show(rt, 0, 5)?;
+    show(rt, 5, 0)?;
+    show(rt, 0, 0)?;
+    show(rt, 1000001, 5)?;
+    show(rt, 5, 1000001)?;
+    show(rt, -1000001, 5)?;
+    show(rt, 5, -1000001)?;
+    show(rt, -9223372036854775808, 1)?;
+    show(rt, 1, 9223372036854775807)
 }
 
 // A line for a pair: the factor and the number of divisions, or the reason and the row.
-fn show(a: i64, b: i64) {
-    print::number(a);
-    print::text(b" and ");
-    print::number(b);
+fn show(rt: &impl Print, a: i64, b: i64) -> io::Result<()> {
     match euclid::common_divisor(a, b) {
-        CommonDivisor::Greatest(g, n) => {
-            print::text(b": factor ");
-            print::number(g);
-            print::counted(b", divisions ", n as u64);
-        }
-        CommonDivisor::Refused(r) => {
-            print::counted(b": refused ", r.number() as u64);
-            print::counted(b" row ", r.row() as u64);
-        }
+        CommonDivisor::Greatest(g, n) => println!(rt; "{a} and {b}: factor {g}, divisions {n}"),
+        CommonDivisor::Refused(r) => println!(rt;
+            "{a} and {b}: refused {} row {}",
+            r.number(),
+            r.row()
+        ),
     }
-    print::text(b"\n");
 }
 
 // How many pairs agree, how many divisions they took, and what their factors add up to.
-#[derive(Drop)]
+#[derive(Clone, Copy)]
 struct Tally {
     agree: u64,
     divisions: u64,
     factors: u64,
 }
 
-fn small_pairs() -> Tally {
+fn small_pairs(rt: &impl Print) -> io::Result<Tally> {
     let mut t = Tally {
         agree: 0,
         divisions: 0,
         factors: 0,
     };
-    let mut i: u64 = 0;
-    while i < 90000 {
-        t = t.and(i / 300 + 1, i % 300 + 1);
-        i += 1;
+    for i in 0..90000u64 {
+        t = t.and(rt, i / 300 + 1, i % 300 + 1)?;
     }
-    t
+    Ok(t)
 }
 
 impl Tally {
     // With one pair more. One that disagrees is printed, and does not count.
-    fn and(self, a: u64, b: u64) -> Tally
+    fn and(self, rt: &impl Print, a: u64, b: u64) -> io::Result<Tally>
         requires a_bound { a ≤ 300 }
         requires le_b { 1 ≤ b }
         requires b_bound { b ≤ 300 }
     {
-        match euclid::common_divisor(a as i64, b as i64) {
-            CommonDivisor::Greatest(g, n) => {
-                if agrees(a, b, ints::size(g), n as u64) {
-                    return Tally {
-                        agree: std::num::wrapping_add_u64(self.agree, 1),
-                        divisions: std::num::wrapping_add_u64(self.divisions, n as u64),
-                        factors: std::num::wrapping_add_u64(self.factors, ints::size(g)),
-                    };
-                }
+        if let CommonDivisor::Greatest(g, n) = euclid::common_divisor(a as i64, b as i64) {
+            if agrees(a, b, ints::size(g), n as u64) {
+                return Ok(Tally {
+                    agree: self.agree.wrapping_add(1),
+                    divisions: self.divisions.wrapping_add(n as u64),
+                    factors: self.factors.wrapping_add(ints::size(g)),
+                });
             }
-            CommonDivisor::Refused(_) => {}
         }
-        print::text(b"disagree: ");
-        show(a as i64, b as i64);
-        self
+        print!(rt; "disagree: ")?;
+        show(rt, a as i64, b as i64)?;
+        Ok(self)
     }
 }
 
@@ -137,14 +128,12 @@ fn greatest(a: u64, b: u64) -> u64
     requires { b ≤ 300 }
 {
     let mut found: u64 = 1;
-    let mut d: u64 = 1;
-    while d <= b {
+    for d in 1..=b {
         if a % d == 0 {
             if b % d == 0 {
                 found = d;
             }
         }
-        d += 1;
     }
     found
 }
@@ -160,7 +149,7 @@ fn by_subtraction(a: u64, b: u64) -> u64
         let next = left(divisor, rest);
         divisor = rest;
         rest = next;
-        made = std::num::wrapping_add_u64(made, 1);
+        made = made.wrapping_add(1);
     }
     made
 }

@@ -2,7 +2,7 @@
 
 use planner::{Lent, Outcome};
 
-#[derive(Drop)]
+#[derive(Clone, Copy)]
 pub struct Answer {
     pub kind: u8,
     /// the worth in two's complement, or the lowest variable of the group without a fit, or the reason
@@ -45,7 +45,7 @@ pub(crate) fn of(job: &[u8], area: &mut [u8]) -> Answer {
 // In two's complement.
 fn residue(x: i64) -> u64 {
     if x < 0 {
-        return std::num::wrapping_sub_u64(0, ints::size(x));
+        return 0u64.wrapping_sub(ints::size(x));
     }
     ints::size(x)
 }
@@ -62,7 +62,7 @@ impl Answer {
 }
 
 /// What is expected of a job: the answer, and the length of its sheet, which stands in the buffer if it has one.
-#[derive(Drop)]
+#[derive(Clone, Copy)]
 pub struct Expected {
     pub answer: Answer,
     pub length: u32,

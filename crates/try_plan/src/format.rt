@@ -26,11 +26,9 @@ pub(crate) fn store(b: &mut Buffer, at: usize, x: u64) {
 // The lowest bytes of x, the lowest first.
 fn put(b: &mut Buffer, at: u32, width: u32, x: u64) {
     let mut rest = x;
-    let mut i: u32 = 0;
-    while i < width {
+    for i in 0..width {
         store(b, at as usize + i as usize, rest);
         rest = rest / 256;
-        i += 1;
     }
 }
 
@@ -54,7 +52,7 @@ pub(crate) fn variable(b: &mut Buffer, i: u16, low: u64, high: u64, weight: u64)
 }
 
 /// The fields of an equation's row: a·left + b·right = c.
-#[derive(Drop)]
+#[derive(Clone, Copy)]
 pub struct Row {
     pub a: u64,
     pub left: u64,
@@ -85,7 +83,7 @@ pub(crate) fn sheet_header(b: &mut Buffer, n: u16, g: u16, worth: u64) -> u32 {
 }
 
 /// What a sheet says of a variable and of its group.
-#[derive(Drop)]
+#[derive(Clone, Copy)]
 pub struct Entry {
     pub number: u64,
     pub base: u64,

@@ -2,27 +2,25 @@
 
 use crate::format::{Buffer, SHEET, byte};
 use crate::{answer, random, search};
+use std::io;
 
 /// A line for each kind, of the first so many jobs.
-pub(crate) fn report(b: &mut Buffer, jobs: u64) {
-    line(b, jobs, b"all", 0);
-    line(b, jobs, b"several groups", 1);
-    line(b, jobs, b"an untied variable", 2);
-    line(b, jobs, b"a ring", 3);
-    line(b, jobs, b"a low above its high", 4);
-    line(b, jobs, b"several best", 5);
+pub(crate) fn report(rt: &impl Print, b: &mut Buffer, jobs: u64) -> io::Result<()> {
+    line(rt, b, jobs, "all", 0)?;
+    line(rt, b, jobs, "several groups", 1)?;
+    line(rt, b, jobs, "an untied variable", 2)?;
+    line(rt, b, jobs, "a ring", 3)?;
+    line(rt, b, jobs, "a low above its high", 4)?;
+    line(rt, b, jobs, "several best", 5)
 }
 
-fn line(b: &mut Buffer, jobs: u64, name: &[u8], kind: u8) {
-    let c = counted(b, jobs, kind);
-    print::text(name);
-    print::counted(b": planned ", c.planned);
-    print::counted(b" no fit ", c.no_fit);
-    print::text(b"\n");
+fn line(rt: &impl Print, b: &mut Buffer, jobs: u64, name: &str, kind: u8) -> io::Result<()> {
+    let Count { planned, no_fit } = counted(b, jobs, kind);
+    println!(rt; "{name}: planned {planned} no fit {no_fit}")
 }
 
 /// How many jobs of a kind are planned, and how many have no fit.
-#[derive(Drop)]
+#[derive(Clone, Copy)]
 struct Count {
     planned: u64,
     no_fit: u64,
@@ -33,11 +31,9 @@ fn counted(b: &mut Buffer, jobs: u64, kind: u8) -> Count {
         planned: 0,
         no_fit: 0,
     };
-    let mut i: u64 = 0;
-    while i < jobs {
+    for i in 0..jobs {
         random::write(b, i);
         c = c.with(b, kind);
-        i += 1;
     }
     c
 }
@@ -49,9 +45,9 @@ impl Count {
         let mut c = self;
         if is_of(b, kind) {
             if answer.kind == answer::PLANNED {
-                c.planned = std::num::wrapping_add_u64(self.planned, 1);
+                c.planned = self.planned.wrapping_add(1);
             } else {
-                c.no_fit = std::num::wrapping_add_u64(self.no_fit, 1);
+                c.no_fit = self.no_fit.wrapping_add(1);
             }
         }
         c
@@ -75,19 +71,16 @@ fn is_of(b: &Buffer, kind: u8) -> bool {
 
 // Is there a variable that no equation names, beside others?
 fn has_untied(b: &Buffer, n: u8, m: u8) -> bool {
-    let mut i: u8 = 0;
-    while i < n {
+    for i in 0..n {
         if !is_named(b, m, i) {
             return 1 < n;
         }
-        i += 1;
     }
     false
 }
 
 fn is_named(b: &Buffer, m: u8, i: u8) -> bool {
-    let mut k: u8 = 0;
-    while k < m {
+    for k in 0..m {
         let at = search::row(b, k);
         if byte(b, at) == i {
             return true;
@@ -95,18 +88,15 @@ fn is_named(b: &Buffer, m: u8, i: u8) -> bool {
         if byte(b, at + 2) == i {
             return true;
         }
-        k += 1;
     }
     false
 }
 
 fn has_empty_bounds(b: &Buffer, n: u8) -> bool {
-    let mut i: u8 = 0;
-    while i < n {
+    for i in 0..n {
         if search::width(b, i) == 0 {
             return true;
         }
-        i += 1;
     }
     false
 }

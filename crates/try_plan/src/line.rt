@@ -28,7 +28,7 @@ pub(crate) fn equation_count(t: Line) -> u16 {
     } else {
         t.before(b'|')
     };
-    (std::num::wrapping_sub_usize(end, t.before(b':')) / 5 % 65536) as u16
+    (end.wrapping_sub(t.before(b':')) / 5 % 65536) as u16
 }
 
 // Which of the variables that the line has says how variable i is: of 256 variables two, in turn.
@@ -53,26 +53,22 @@ pub(crate) fn write(b: &mut Buffer, t: Line) -> u32 {
 }
 
 fn variables(b: &mut Buffer, t: Line, n: u16) {
-    let mut i: u16 = 0;
-    while i < n {
+    for i in 0..n {
         let at = place(t, i);
-        let low = std::num::wrapping_add_usize(at, at);
+        let low = at.wrapping_add(at);
         format::variable(
             b,
             i,
             t.bound(low),
-            t.bound(std::num::wrapping_add_usize(low, 1)),
+            t.bound(low.wrapping_add(1)),
             t.after(b';', at),
         );
-        i += 1;
     }
 }
 
 fn equations(b: &mut Buffer, t: Line, n: u16, m: u16) {
-    let mut k: u16 = 0;
-    while k < m {
+    for k in 0..m {
         format::equation(b, n, k, row(t, k));
-        k += 1;
     }
 }
 
@@ -105,14 +101,12 @@ pub(crate) fn expect(b: &mut Buffer, t: Line) -> Expected {
 
 // There is no fit at the first variable whose group has none.
 fn rows(b: &mut Buffer, t: Line, n: u16) -> Answer {
-    let mut i: u16 = 0;
-    while i < n {
+    for i in 0..n {
         let x = entry(t, i);
         if x.fits == 0 {
             return answer::new(answer::NO_FIT, i as u64);
         }
         format::sheet_rows(b, n, i, x);
-        i += 1;
     }
     answer::new(answer::PLANNED, t.after(b'>', 0))
 }
@@ -123,7 +117,7 @@ fn entry(t: Line, i: u16) -> Entry {
     let base = t.after(b'|', 4 * at + 1);
     let step = t.after(b'|', 4 * at + 2);
     let fits = t.after(b'|', 4 * at + 3);
-    let last = std::num::wrapping_sub_u64(fits, 1);
+    let last = fits.wrapping_sub(1);
     let weighed = t.has(b'>');
     let chosen = chosen_at(t, group);
     Entry {
@@ -143,7 +137,7 @@ fn entry(t: Line, i: u16) -> Entry {
 
 // base + step·k, in the 32 bits that a sheet has for it; k is at most 2,000,000,000.
 fn along(base: u64, step: u64, k: u64) -> u64 {
-    std::num::wrapping_add_u64(base, step % 4294967296 * (k % 2147483648))
+    base.wrapping_add(step % 4294967296 * (k % 2147483648))
 }
 
 // Where a group's chosen k stands, behind the worth and the numbers.
@@ -168,12 +162,10 @@ fn lowest(t: Line, i: u16) -> u16 {
 // How many groups have their lowest variable below i.
 fn groups_below(t: Line, end: u16) -> u16 {
     let mut g: u16 = 0;
-    let mut i: u16 = 0;
-    while i < end {
+    for i in 0..end {
         if lowest(t, i) == i {
-            g = std::num::wrapping_add_u16(g, 1);
+            g = g.wrapping_add(1);
         }
-        i += 1;
     }
     g
 }

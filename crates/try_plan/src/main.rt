@@ -2,6 +2,9 @@
 //! through all lists of numbers, and so are some thousands of pseudo-random ones. Each is planned in an area that is just long enough,
 //! in a longer one, and in one that is a byte too short. What is compared is the outcome, and every byte of the area and of those behind
 //! it. A job that differs is named in its family's line.
+#![tactic(auto)]
+
+use std::io;
 
 // the bytes of jobs and sheets
 mod format;
@@ -28,8 +31,8 @@ mod kinds;
 // the pseudo-random jobs against the plain search
 mod sweep;
 
-fn main() {
+fn main(rt: HostRuntime) -> io::Result<()> {
     let mut b: format::Buffer = [0; 32896];
-    table::all(&mut b);
-    sweep::all(&mut b);
+    table::all(&rt, &mut b)?;
+    sweep::all(&rt, &mut b)
 }

@@ -19,20 +19,16 @@ pub(crate) fn write(b: &mut Buffer, i: u64) -> u32 {
 }
 
 fn variables(b: &mut Buffer, n: u8, seed: u64) {
-    let mut i: u8 = 0;
-    while i < n {
+    for i in 0..n {
         let low = lowest(seed, i);
         let high = sum(low, width(seed, i), 255);
         format::variable(b, i as u16, wide(low), wide(high), wide(weight(seed, i)));
-        i += 1;
     }
 }
 
 fn equations(b: &mut Buffer, n: u8, m: u8, seed: u64) {
-    let mut k: u8 = 0;
-    while k < m {
+    for k in 0..m {
         format::equation(b, n as u16, k as u16, row(n, k, m, seed));
-        k += 1;
     }
 }
 
@@ -40,7 +36,7 @@ fn row(n: u8, k: u8, m: u8, seed: u64) -> Row {
     let form = form(k, m, seed);
     let at = 100 + 10 * k as u64;
     let left = draw(seed, at, n);
-    let apart = 1 + draw(seed, at + 1, std::num::wrapping_sub_u8(n, 1)) as u64;
+    let apart = 1 + draw(seed, at + 1, n.wrapping_sub(1)) as u64;
     let right = below(left as u64 + apart, n);
     let by = FACTORS[(draw(seed, at + 2, 4) % 4) as usize];
     let a = if form == 2 {
@@ -80,7 +76,7 @@ fn form(k: u8, m: u8, seed: u64) -> u8 {
 
 // From the c with which the equation holds at the point.
 fn constant(seed: u64, at: u64, form: u8, c: u8) -> u8 {
-    let place = std::num::wrapping_add_u64(at, 4);
+    let place = at.wrapping_add(4);
     match form {
         0 => sum(240, draw(seed, place, 33), 0),
         3 => sum(c, 248, draw(seed, place, 17)),
@@ -145,7 +141,7 @@ fn product(x: u8, y: u8) -> u8 {
 // A number below the limit, or 0, for a job's seed and a place in the job.
 fn draw(seed: u64, place: u64, limit: u8) -> u8 {
     below(
-        pseudo_random::mixed(std::num::wrapping_add_u64(seed, place)) / 65536,
+        pseudo_random::mixed(seed.wrapping_add(place)) / 65536,
         limit,
     )
 }

@@ -20,11 +20,7 @@ pub(crate) fn wide(x: u8) -> u64 {
 
 // Without its sign.
 fn size(x: u8) -> u8 {
-    if x < 128 {
-        x
-    } else {
-        std::num::wrapping_sub_u8(0, x)
-    }
+    if x < 128 { x } else { 0u8.wrapping_sub(x) }
 }
 
 /// The product on 64 bits.
@@ -33,14 +29,14 @@ pub(crate) fn times(x: u8, y: u8) -> u64 {
     if x / 128 == y / 128 {
         product
     } else {
-        std::num::wrapping_sub_u64(0, product)
+        0u64.wrapping_sub(product)
     }
 }
 
 // In two's complement the negative numbers come last.
 fn is_less(x: u64, y: u64) -> bool {
     let half = 9223372036854775808;
-    std::num::wrapping_add_u64(x, half) < std::num::wrapping_add_u64(y, half)
+    x.wrapping_add(half) < y.wrapping_add(half)
 }
 
 // ---- groups
@@ -57,13 +53,11 @@ fn label(labels: Labels, i: u8) -> u8 {
 fn labels(b: &Buffer) -> Labels {
     let m = byte(b, 6);
     let mut labels: Labels = [0, 1, 2, 3, 4];
-    let mut i: u8 = 0;
-    while i < 30 {
+    for i in 0..30u8 {
         if i % 6 < m {
             let next = joined(b, i % 6, labels);
             labels = next;
         }
-        i += 1;
     }
     labels
 }
@@ -101,12 +95,10 @@ pub(crate) fn row(b: &Buffer, k: u8) -> usize
 // How many groups have their lowest variable below i.
 fn groups_below(labels: Labels, end: u8) -> u16 {
     let mut g: u16 = 0;
-    let mut i: u8 = 0;
-    while i < end {
+    for i in 0..end {
         if label(labels, i) == i {
-            g = std::num::wrapping_add_u16(g, 1);
+            g = g.wrapping_add(1);
         }
-        i += 1;
     }
     g
 }
@@ -122,11 +114,11 @@ fn number(list: u64, i: u8) -> u8 {
         3 => list / 256,
         _ => list,
     };
-    std::num::wrapping_sub_u8((rest % 256) as u8, 128)
+    ((rest % 256) as u8).wrapping_sub(128)
 }
 
 /// A group of variables, and a list that has the numbers of all others.
-#[derive(Drop)]
+#[derive(Clone, Copy)]
 struct Part {
     labels: Labels,
     group: u8,
@@ -150,12 +142,12 @@ pub(crate) fn width(b: &Buffer, i: u8) -> u64 {
     if is_less(wide(high), wide(low)) {
         return 0;
     }
-    std::num::wrapping_sub_u8(high, low) as u64 + 1
+    high.wrapping_sub(low) as u64 + 1
 }
 
 /// The list of a code, which has a digit for each variable, the last one's lowest: how far it stands above its low; so far as it is
 /// read, and what is left of the code.
-#[derive(Drop)]
+#[derive(Clone, Copy)]
 struct Code {
     list: u64,
     rest: u64,
@@ -169,9 +161,7 @@ fn decoded(b: &Buffer, p: Part, code: u64) -> Code {
         list: 0,
         rest: code,
     };
-    let mut i: u8 = 5;
-    while 0 < i {
-        i -= 1;
+    for i in (0..5u8).rev() {
         c = c.digit(b, p, i);
     }
     c
@@ -187,15 +177,12 @@ impl Code {
             return self.with(0, PAST);
         }
         let low = byte(b, 24 + 12 * i as usize);
-        self.with(
-            std::num::wrapping_add_u8(low, (self.rest % w % 256) as u8),
-            self.rest / w,
-        )
+        self.with(low.wrapping_add((self.rest % w % 256) as u8), self.rest / w)
     }
 
     fn with(self, x: u8, rest: u64) -> Code {
         Code {
-            list: self.list / 256 + 4294967296 * std::num::wrapping_add_u8(x, 128) as u64,
+            list: self.list / 256 + 4294967296 * x.wrapping_add(128) as u64,
             rest: rest,
         }
     }
@@ -204,12 +191,10 @@ impl Code {
 // Does every equation of the group hold?
 fn hold(b: &Buffer, p: Part, list: u64) -> bool {
     let m = byte(b, 6);
-    let mut k: u8 = 0;
-    while k < m {
+    for k in 0..m {
         if !holds(b, k, p, list) {
             return false;
         }
-        k += 1;
     }
     true
 }
@@ -225,7 +210,7 @@ fn holds(b: &Buffer, k: u8, p: Part, list: u64) -> bool {
     }
     let x = times(of_left, number(list, left));
     let y = times(of_right, number(list, right));
-    std::num::wrapping_add_u64(x, y) == wide(byte(b, at + 12))
+    x.wrapping_add(y) == wide(byte(b, at + 12))
 }
 
 // The variable whose group an equation with these coefficients belongs to.
@@ -241,13 +226,11 @@ fn home(left: u8, right: u8, of_left: u8, of_right: u8) -> u8 {
 // The sum of weight times number over a group.
 fn worth(b: &Buffer, p: Part, list: u64) -> u64 {
     let mut sum: u64 = 0;
-    let mut i: u8 = 0;
-    while i < 5 {
+    for i in 0..5u8 {
         if has(b, p, i) {
             let weight = byte(b, 32 + 12 * i as usize);
-            sum = std::num::wrapping_add_u64(sum, times(weight, number(list, i)));
+            sum = sum.wrapping_add(times(weight, number(list, i)));
         }
-        i += 1;
     }
     sum
 }
@@ -257,7 +240,7 @@ fn worth(b: &Buffer, p: Part, list: u64) -> u64 {
 /// How many they are; the first, the second if there is one, and the last; whether it is as far from each to the next; the best, which
 /// is the last of those that are worth most, what it is worth, and how many are worth as much; and the place of the one that was given
 /// beforehand.
-#[derive(Drop)]
+#[derive(Clone, Copy)]
 struct Found {
     many: u32,
     first: u64,
@@ -285,8 +268,7 @@ fn all(b: &Buffer, p: Part) -> Found {
         equals: 0,
         place: NONE,
     };
-    let mut code: u64 = 0;
-    while code < 32768 {
+    for code in 0..32768u64 {
         let c = decoded(b, p, code);
         if 0 < c.rest {
             return f;
@@ -294,7 +276,6 @@ fn all(b: &Buffer, p: Part) -> Found {
         if hold(b, p, c.list) {
             f = f.ranked(c.list, worth(b, p, c.list)).with(c.list, p.others);
         }
-        code += 1;
     }
     f
 }
@@ -308,7 +289,7 @@ impl Found {
                 return self;
             }
             if self.worth == worth {
-                f.equals = std::num::wrapping_add_u32(self.equals, 1);
+                f.equals = self.equals.wrapping_add(1);
             }
         }
         f.best = list;
@@ -319,7 +300,7 @@ impl Found {
     fn with(self, list: u64, given: u64) -> Found {
         let mut f = self;
         let many = self.many;
-        f.many = std::num::wrapping_add_u32(many, 1);
+        f.many = many.wrapping_add(1);
         f.last = list;
         if many == 0 {
             f.first = list;
@@ -327,8 +308,8 @@ impl Found {
         if many < 2 {
             f.second = list;
         } else {
-            let way = std::num::wrapping_sub_u64(list, self.last);
-            if way != std::num::wrapping_sub_u64(self.second, self.first) {
+            let way = list.wrapping_sub(self.last);
+            if way != self.second.wrapping_sub(self.first) {
                 f.even = false;
             }
         }
@@ -372,14 +353,12 @@ pub(crate) fn expect(b: &mut Buffer) -> Expected {
 
 // There is no fit at the first variable whose group has none.
 fn rows(b: &mut Buffer, labels: Labels, best: Found, n: u8) -> Answer {
-    let mut i: u8 = 0;
-    while i < n {
+    for i in 0..n {
         let x = entry(b, labels, best, i);
         if x.fits == 0 {
             return answer::new(answer::NO_FIT, i as u64);
         }
         format::sheet_rows(b, n as u16, i as u16, x);
-        i += 1;
     }
     answer::new(answer::PLANNED, best.worth)
 }
@@ -398,10 +377,10 @@ fn entry(b: &Buffer, labels: Labels, best: Found, i: u8) -> Entry {
     Entry {
         number: wide(number(best.best, i)),
         base: wide(base),
-        step: wide(std::num::wrapping_sub_u8(number(f.second, i), base)),
+        step: wide(number(f.second, i).wrapping_sub(base)),
         group: groups_below(labels, group),
         fits: if odd { NONE } else { f.many as u64 },
         chosen: f.place,
-        gain: std::num::wrapping_sub_u64(worth(b, p, f.second), worth(b, p, f.first)),
+        gain: worth(b, p, f.second).wrapping_sub(worth(b, p, f.first)),
     }
 }

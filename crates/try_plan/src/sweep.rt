@@ -3,27 +3,25 @@
 use crate::format::Buffer;
 use crate::tally::Tally;
 use crate::{kinds, random, search, tally, trial};
+use std::io;
 
 const JOBS: u64 = 3000;
 
-pub(crate) fn all(b: &mut Buffer) {
-    print::text(b"random");
-    let t = compared(b);
-    print::counted(b" jobs ", t.jobs);
-    print::counted(b" seed ", pseudo_random::SEED);
-    print::counted(b" differ ", t.differ);
-    print::text(b"\n");
-    kinds::report(b, JOBS);
+pub(crate) fn all(rt: &impl Print, b: &mut Buffer) -> io::Result<()> {
+    print!(rt; "random")?;
+    let t = compared(rt, b)?;
+    let seed = pseudo_random::SEED;
+    println!(rt; " jobs {} seed {seed} differ {}", t.jobs, t.differ)?;
+    kinds::report(rt, b, JOBS)
 }
 
-fn compared(b: &mut Buffer) -> Tally {
+fn compared(rt: &impl Print, b: &mut Buffer) -> io::Result<Tally> {
     let mut t = tally::nothing();
-    let mut i: u64 = 0;
-    while i < JOBS {
+    for i in 0..JOBS {
         let length = random::write(b, i);
         let x = search::expect(b);
-        t = t.judge(trial::is_right(b, length, x));
-        i += 1;
+        let right = trial::is_right(rt, b, length, x)?;
+        t = t.judge(rt, right)?;
     }
-    t
+    Ok(t)
 }

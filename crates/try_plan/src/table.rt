@@ -6,57 +6,54 @@ use crate::tally::Tally;
 use crate::text::Line;
 use crate::{answer, format, line, search, tally, text, trial};
 use input::Text;
+use std::io;
 
-pub(crate) fn all(b: &mut Buffer) {
+pub(crate) fn all(rt: &(impl Input + Print), b: &mut Buffer) -> io::Result<()> {
     let mut text: Text = [0; 16384];
-    let length = input::read(&mut text);
-    run(b, &text[..length]);
+    let length = input::read(rt, &mut text)?;
+    run(rt, b, &text[..length])
 }
 
-fn run(b: &mut Buffer, lines: &[u8]) {
+// What no line end closes is no line, and passed over.
+fn run(rt: &impl Print, b: &mut Buffer, lines: &[u8]) -> io::Result<()> {
     let mut t = tally::nothing();
-    let mut read = text::start();
-    let mut from: usize = 0;
-    let mut i: usize = 0;
-    while i < lines.len() {
-        let x = lines[i];
-        let next = i + 1;
-        read = read.next(x);
-        if x == b'\n' {
-            t = line(t, b, &lines[0..i], from, read);
-            read = text::start();
-            from = next;
+    for written in lines.split_inclusive(|x| *x == b'\n') {
+        if let Some(written) = written.strip_suffix(b"\n") {
+            t = line(rt, t, b, written)?;
         }
-        i = next;
     }
-    t.report();
+    t.report(rt)
 }
 
-// The line from a place to the end of the text.
-fn line(t: Tally, b: &mut Buffer, lines: &[u8], from: usize, read: Line) -> Tally {
-    if lines.len() <= from {
-        return t;
+// One line, without its end.
+fn line(rt: &impl Print, t: Tally, b: &mut Buffer, written: &[u8]) -> io::Result<Tally> {
+    if written.is_empty() || written.starts_with(b"#") {
+        return Ok(t);
     }
-    if lines[from] == b'#' {
-        return t;
+    // What ends the line ends its last number.
+    let mut read = text::start();
+    for x in written {
+        read = read.next(*x);
     }
+    let read = read.next(b'\n');
     if read.has(b':') {
-        return job(t, b, read);
+        return job(rt, t, b, read);
     }
-    t.report();
-    print::text(&lines[from..]);
-    tally::nothing()
+    t.report(rt)?;
+    rt.write_all(written)?;
+    Ok(tally::nothing())
 }
 
 // One number behind the bar: so many jobs, against the plain search.
-fn job(t: Tally, b: &mut Buffer, read: Line) -> Tally {
+fn job(rt: &impl Print, t: Tally, b: &mut Buffer, read: Line) -> io::Result<Tally> {
     let length = line::write(b, read);
     let many = read.expected();
     if many == 1 {
-        return forms(t, b, read, length);
+        return forms(rt, t, b, read, length);
     }
     let x = expect(b, read, many);
-    t.judge(trial::is_right(b, length, x))
+    let right = trial::is_right(rt, b, length, x)?;
+    t.judge(rt, right)
 }
 
 // Two numbers: a reason and a row. Without a bar, what the plain search gives.
@@ -76,23 +73,22 @@ fn expect(b: &mut Buffer, read: Line, many: usize) -> Expected {
     search::expect(b)
 }
 
-fn forms(t: Tally, b: &mut Buffer, read: Line, length: u32) -> Tally {
+fn forms(rt: &impl Print, t: Tally, b: &mut Buffer, read: Line, length: u32) -> io::Result<Tally> {
     let end = read.after(b'|', 0);
     let mut t = t;
-    let mut code: u64 = 0;
-    while code < end {
+    for code in 0..end {
         write(b, read, code);
         let x = search::expect(b);
-        t = t.judge(trial::is_right(b, length, x));
-        code += 1;
+        let right = trial::is_right(rt, b, length, x)?;
+        t = t.judge(rt, right)?;
     }
-    t
+    Ok(t)
 }
 
 // Puts a form of its last row in the job of the line, which stands in the buffer.
 fn write(b: &mut Buffer, read: Line, code: u64) {
     let n = line::variable_count(read);
-    let k = std::num::wrapping_sub_u16(line::equation_count(read), 1);
+    let k = line::equation_count(read).wrapping_sub(1);
     format::equation(b, n, k, form(code, line::row(read, k)));
 }
 
@@ -112,6 +108,6 @@ fn signed(odd: u64, size: u64) -> u64 {
     if odd % 2 == 0 {
         size
     } else {
-        std::num::wrapping_sub_u64(0, size)
+        0u64.wrapping_sub(size)
     }
 }

@@ -1,7 +1,9 @@
 //! The count of a family of jobs.
 
+use std::io;
+
 /// How many jobs, and how many of them came out other than expected.
-#[derive(Drop)]
+#[derive(Clone, Copy)]
 pub struct Tally {
     pub jobs: u64,
     pub differ: u64,
@@ -13,22 +15,21 @@ pub(crate) fn nothing() -> Tally {
 
 impl Tally {
     /// With one job more. If it differs, its place among the family's is printed.
-    pub(crate) fn judge(self, right: bool) -> Tally {
+    pub(crate) fn judge(self, rt: &impl Print, right: bool) -> io::Result<Tally> {
         let mut t = self;
-        t.jobs = std::num::wrapping_add_u64(self.jobs, 1);
+        t.jobs = self.jobs.wrapping_add(1);
         if !right {
-            t.differ = std::num::wrapping_add_u64(self.differ, 1);
-            print::counted(b" differs at ", self.jobs);
+            t.differ = self.differ.wrapping_add(1);
+            print!(rt; " differs at {}", self.jobs)?;
         }
-        t
+        Ok(t)
     }
 
     /// The rest of a family's line, if it has any jobs.
-    pub(crate) fn report(self) {
+    pub(crate) fn report(self, rt: &impl Print) -> io::Result<()> {
         if 0 < self.jobs {
-            print::counted(b" jobs ", self.jobs);
-            print::counted(b" differ ", self.differ);
-            print::text(b"\n");
+            println!(rt; " jobs {} differ {}", self.jobs, self.differ)?;
         }
+        Ok(())
     }
 }

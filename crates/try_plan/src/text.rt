@@ -9,7 +9,7 @@
 use input::Numbers;
 
 /// What is read of a line: its numbers, and for each mark how many stand before it.
-#[derive(Drop)]
+#[derive(Clone, Copy)]
 pub struct Line {
     numbers: Numbers,
     marks: [usize; 128],
@@ -64,16 +64,12 @@ impl Line {
 
     /// How many numbers are expected.
     pub(crate) fn expected(self) -> usize {
-        std::num::wrapping_sub_usize(self.before(b'>'), self.before(b'|'))
+        self.before(b'>').wrapping_sub(self.before(b'|'))
     }
 
     /// Number i of the bounds.
     pub(crate) fn bound(self, i: usize) -> u64 {
-        self.get(if self.has(b'*') {
-            std::num::wrapping_add_usize(i, 1)
-        } else {
-            i
-        })
+        self.get(if self.has(b'*') { i.wrapping_add(1) } else { i })
     }
 
     /// Number i, and number i behind a mark; 0 where there is none.
@@ -85,7 +81,7 @@ impl Line {
     pub(crate) fn after(self, x: u8, i: usize) -> u64 {
         if self.has(x) {
             if i < 64 {
-                return self.get(std::num::wrapping_add_usize(self.before(x), i));
+                return self.get(self.before(x).wrapping_add(i));
             }
         }
         0

@@ -3,33 +3,35 @@
 use crate::answer;
 use crate::answer::{Answer, Expected};
 use crate::format::{Buffer, SHEET, byte, store};
+use std::io;
 
 /// Is the job planned as expected? In an area that is just long enough, in a longer one, and in one that is a byte too short.
-pub(crate) fn is_right(b: &Buffer, length: u32, x: Expected) -> bool {
+pub(crate) fn is_right(rt: &impl Print, b: &Buffer, length: u32, x: Expected) -> io::Result<bool> {
     let mut area: Buffer = [0; 32896];
-    if !is_left(b, length, x.length % 65536, x, &mut area) {
-        return false;
+    let enough = x.length % 65536;
+    for size in [enough, enough + 9, x.length.wrapping_sub(1)] {
+        if !is_left(rt, b, length, size, x, &mut area)? {
+            return Ok(false);
+        }
     }
-    if !is_left(b, length, x.length % 65536 + 9, x, &mut area) {
-        return false;
-    }
-    is_left(
-        b,
-        length,
-        std::num::wrapping_sub_u32(x.length, 1),
-        x,
-        &mut area,
-    )
+    Ok(true)
 }
 
 // In an area of one size. If not, what differs is said.
-fn is_left(b: &Buffer, length: u32, size: u32, x: Expected, area: &mut Buffer) -> bool {
+fn is_left(
+    rt: &impl Print,
+    b: &Buffer,
+    length: u32,
+    size: u32,
+    x: Expected,
+    area: &mut Buffer,
+) -> io::Result<bool> {
     let expected = x.within(size);
     let end = size % 65536 + 16;
     fill(area, end);
     if !ask(b, length, area, size).equals(expected) {
-        print::text(b" outcome");
-        return false;
+        print!(rt; " outcome")?;
+        return Ok(false);
     }
     let written = if expected.kind == answer::PLANNED {
         x.length
@@ -38,10 +40,10 @@ fn is_left(b: &Buffer, length: u32, size: u32, x: Expected, area: &mut Buffer) -
     };
     let at = first_difference(b, area, written, end);
     if at < end {
-        print::counted(b" byte ", at as u64);
-        return false;
+        print!(rt; " byte {at}")?;
+        return Ok(false);
     }
-    true
+    Ok(true)
 }
 
 // The planner's answer for the first bytes of the job's buffer and of the area's.
@@ -63,21 +65,17 @@ fn pattern(i: u32) -> u64 {
 }
 
 fn fill(area: &mut Buffer, end: u32) {
-    let mut i: u32 = 0;
-    while i < end {
+    for i in 0..end {
         store(area, i as usize, pattern(i));
-        i += 1;
     }
 }
 
 // The first byte of an area that is not as in the sheet, or where nothing is written as before; or the end.
 fn first_difference(b: &Buffer, area: &Buffer, written: u32, end: u32) -> u32 {
-    let mut i: u32 = 0;
-    while i < end {
+    for i in 0..end {
         if byte(area, i as usize) != expected(b, i, written) {
             return i;
         }
-        i += 1;
     }
     end
 }

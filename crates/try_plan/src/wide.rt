@@ -43,7 +43,7 @@ fn link(left: u64, right: u64, a: u64) -> Row {
     Row {
         a: a,
         left: left,
-        b: std::num::wrapping_sub_u64(3, a),
+        b: 3u64.wrapping_sub(a),
         right: right,
         c: 0,
     }

@@ -5,6 +5,7 @@ use crate::tally::Tally;
 use crate::task::{RunBits, Task};
 use crate::{search, tally, task};
 use runs::Working;
+use std::io;
 
 // 13 first numbers, 13 steps and 14 lengths; the runs are those in their one form.
 const RUNS: u64 = 2366;
@@ -13,46 +14,41 @@ const RUNS: u64 = 2366;
 const EQUATIONS: u64 = 1539;
 
 /// The cases that disagree stand on lines above the working's two.
-pub(crate) fn all(working: &[u8], cases: &[u8], carry: bool) {
-    tried(carry, if carry { EQUATIONS } else { RUNS }).show(working, cases);
+pub(crate) fn all(rt: &impl Print, working: &str, cases: &str, carry: bool) -> io::Result<()> {
+    tried(rt, carry, if carry { EQUATIONS } else { RUNS })?.show(rt, working, cases)
 }
 
 // The tasks whose code is below the end.
-fn tried(carry: bool, end: u64) -> Tally {
+fn tried(rt: &impl Print, carry: bool, end: u64) -> io::Result<Tally> {
     let mut t = tally::none();
-    let mut code: u64 = 0;
-    while code < end {
+    for code in 0..end {
         let task = task_at(carry, code);
         if is_task(task) {
-            t = over_runs(t, task);
+            t = over_runs(rt, t, task)?;
         }
-        code += 1;
     }
-    t
+    Ok(t)
 }
 
 // With each run.
-fn over_runs(before: Tally, task: Task) -> Tally {
+fn over_runs(rt: &impl Print, before: Tally, task: Task) -> io::Result<Tally> {
     let mut t = before;
-    let mut code: u64 = 0;
-    while code < RUNS {
+    for code in 0..RUNS {
         let r = run_at(code);
         if is_run(r) {
             let e = search::result(task, r);
             let expected = Working::Gives(task::run_of(e.first, e.step, e.many));
-            t = t
-                .with(e.many)
-                .agreeing(task::agrees(task::ask(task, r), expected));
+            let agrees = task::agrees(rt, task::ask(task, r), expected)?;
+            t = t.with(e.many).agreeing(agrees);
         }
-        code += 1;
     }
-    t
+    Ok(t)
 }
 
 // First number -6..=6, step 0..=12, 0 to 13 numbers.
 fn run_at(code: u64) -> RunBits {
     RunBits {
-        first: std::num::wrapping_sub_u64(code % 13, 6),
+        first: (code % 13).wrapping_sub(6),
         step: code / 13 % 13,
         many: code / 169 % 14,
     }
@@ -64,9 +60,9 @@ fn task_at(carry: bool, code: u64) -> Task {
     if carry {
         return Task {
             carry: true,
-            a: std::num::wrapping_sub_u64(code % 9, 4),
-            b: std::num::wrapping_sub_u64(code / 9 % 9, 4),
-            c: std::num::wrapping_sub_u64(code / 81 % 19, 9),
+            a: (code % 9).wrapping_sub(4),
+            b: (code / 9 % 9).wrapping_sub(4),
+            c: (code / 81 % 19).wrapping_sub(9),
         };
     }
     Task {
@@ -98,7 +94,7 @@ fn is_run(r: RunBits) -> bool {
     }
     let way = r.step % 16 * ((r.many - 1) % 16);
     if 0 < r.step {
-        std::num::wrapping_add_u64(std::num::wrapping_add_u64(r.first, 6), way) <= 12
+        r.first.wrapping_add(6).wrapping_add(way) <= 12
     } else {
         false
     }

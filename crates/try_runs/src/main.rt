@@ -4,6 +4,9 @@
 //! worked out. The results of the search are counted too, and the expected counts come from sets of numbers, so that the output shows
 //! that the search itself is right. What the lists come to was worked out by sieving, a run after the other, with whole numbers of any
 //! size.
+#![tactic(auto)]
+
+use std::io;
 
 // a working with its arguments, and its answer
 mod task;
@@ -20,9 +23,9 @@ mod random;
 // those lists in several orders and groupings
 mod orders;
 
-fn main() {
-    questions::all();
-    compare::all(b"meeting", b" pairs ", false);
-    compare::all(b"carrying", b" cases ", true);
-    orders::all();
+fn main(rt: HostRuntime) -> io::Result<()> {
+    questions::all(&rt)?;
+    compare::all(&rt, "meeting", " pairs ", false)?;
+    compare::all(&rt, "carrying", " cases ", true)?;
+    orders::all(&rt)
 }

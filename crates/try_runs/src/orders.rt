@@ -6,6 +6,7 @@ use crate::random::List;
 use crate::tally::Tally;
 use crate::{random, tally, task};
 use runs::{Run, Working};
+use std::io;
 
 const LISTS: u64 = 6000;
 
@@ -13,7 +14,7 @@ const LISTS: u64 = 6000;
 const WAYS: u64 = 12;
 
 /// What the lists come to, and one number into which all their runs go.
-#[derive(Drop)]
+#[derive(Clone, Copy)]
 struct Results {
     tally: Tally,
     refused: u64,
@@ -21,40 +22,35 @@ struct Results {
 }
 
 /// The lists that disagree stand on lines above these.
-pub(crate) fn all() {
-    let r = tried();
-    r.tally.show(b"lists", b" ");
-    print::counted(b"lists refused ", r.refused);
-    print::counted(b" mark ", r.mark);
-    print::text(b"\n");
+pub(crate) fn all(rt: &impl Print) -> io::Result<()> {
+    let r = tried(rt)?;
+    r.tally.show(rt, "lists", " ")?;
+    println!(rt; "lists refused {} mark {}", r.refused, r.mark)
 }
 
-fn tried() -> Results {
+fn tried(rt: &impl Print) -> io::Result<Results> {
     let mut r = Results {
         tally: tally::none(),
         refused: 0,
         mark: 0,
     };
-    let mut i: u64 = 0;
-    while i < LISTS {
-        r = r.with(i);
-        i += 1;
+    for i in 0..LISTS {
+        r = r.with(rt, i)?;
     }
-    r
+    Ok(r)
 }
 
 impl Results {
     // With list i.
-    fn with(self, i: u64) -> Results {
+    fn with(self, rt: &impl Print, i: u64) -> io::Result<Results> {
         let mut r = self;
         let n = i % 3 + 3;
         let seed = pseudo_random::mixed(i);
         let list = random::list(seed, i / 3 % 4, n);
         let answer = met(list, n, 0);
-        let same = agree(list, n, seed, answer);
+        let same = agree(rt, list, n, seed, answer)?;
         if !same {
-            print::counted(b"in list ", i);
-            print::text(b"\n");
+            println!(rt; "in list {i}")?;
         }
         r.tally = self.tally.agreeing(same);
         match answer {
@@ -63,10 +59,10 @@ impl Results {
                 r.mark = marked(self.mark, run);
             }
             Working::Refused(_) => {
-                r.refused = std::num::wrapping_add_u64(self.refused, 1);
+                r.refused = self.refused.wrapping_add(1);
             }
         }
-        r
+        Ok(r)
     }
 }
 
@@ -77,25 +73,22 @@ fn marked(mark: u64, r: Run) -> u64 {
 }
 
 // Do all ways give this answer?
-fn agree(list: List, n: u64, seed: u64, answer: Working) -> bool {
-    let mut way: u64 = 0;
-    while way < WAYS {
-        let of_way = pseudo_random::mixed(std::num::wrapping_add_u64(seed, 1000 + way));
-        if !task::agrees(answer, met(list, n, of_way)) {
-            return false;
+fn agree(rt: &impl Print, list: List, n: u64, seed: u64, answer: Working) -> io::Result<bool> {
+    for way in 0..WAYS {
+        let of_way = pseudo_random::mixed(seed.wrapping_add(1000 + way));
+        if !task::agrees(rt, answer, met(list, n, of_way))? {
+            return Ok(false);
         }
-        way += 1;
     }
-    true
+    Ok(true)
 }
 
 // Two of the runs that are left are met, and what they meet in takes their place, until one is left. Which two, the seed says: so
 // every order and every grouping may come. A refusal ends it.
 fn met(list: List, n: u64, seed: u64) -> Working {
     let mut left = list;
-    let mut many = n;
     let mut s = seed;
-    while 1 < many {
+    for many in (2..=n).rev() {
         let i = place(s, many);
         let j = other(s, many);
         match runs::meeting(left[i], left[j]) {
@@ -106,8 +99,7 @@ fn met(list: List, n: u64, seed: u64) -> Working {
                 return Working::Refused(r);
             }
         }
-        many -= 1;
-        left[j] = left[place(many, 5)];
+        left[j] = left[place(many - 1, 5)];
         s = pseudo_random::next(s);
     }
     Working::Gives(left[0])
@@ -130,6 +122,6 @@ fn other(s: u64, many: u64) -> usize
     if many < 2 {
         return 0;
     }
-    let apart = std::num::wrapping_add_u64(s / 65536 % (many - 1), 1);
-    place(std::num::wrapping_add_u64(s % many, apart), many)
+    let apart = (s / 65536 % (many - 1)).wrapping_add(1);
+    place((s % many).wrapping_add(apart), many)
 }

@@ -9,46 +9,44 @@ use crate::task;
 use crate::task::Task;
 use input::{Numbers, Text};
 use runs::{Run, Working};
+use std::io;
 
-pub(crate) fn all() {
+pub(crate) fn all(rt: &(impl Input + Print)) -> io::Result<()> {
     let mut text: Text = [0; 16384];
-    let length = input::read(&mut text);
-    run(&text[..length]);
-    print::text(b"full range");
-    task::show(Working::Gives(Run::full()));
+    let length = input::read(rt, &mut text)?;
+    run(rt, &text[..length])?;
+    print!(rt; "full range")?;
+    task::show(rt, Working::Gives(Run::full()))
 }
 
-fn run(lines: &[u8]) {
-    let mut read = input::none();
-    let mut from: usize = 0;
-    let mut i: usize = 0;
-    while i < lines.len() {
-        let x = lines[i];
-        let next = i + 1;
-        read = read.next(x);
-        if x == b'\n' {
-            line(&lines[0..i], from, read);
-            read = input::none();
-            from = next;
+// What no line end closes is no line, and passed over.
+fn run(rt: &impl Print, lines: &[u8]) -> io::Result<()> {
+    for line in lines.split_inclusive(|x| *x == b'\n') {
+        if let Some(line) = line.strip_suffix(b"\n") {
+            question(rt, line)?;
         }
-        i = next;
     }
+    Ok(())
 }
 
-// The line from a place to the end of the text.
-fn line(lines: &[u8], from: usize, read: Numbers) {
-    if lines.len() <= from {
-        return;
+// One line, without its end. Nothing is printed of an empty one.
+fn question(rt: &impl Print, line: &[u8]) -> io::Result<()> {
+    let Some(kind) = line.first() else {
+        return Ok(());
+    };
+    if *kind == b'#' {
+        return Ok(());
     }
-    let kind = lines[from];
-    if kind == b'#' {
-        return;
+    rt.write_all(line)?;
+    // What ends the line ends its last number.
+    let mut read = input::none();
+    for x in line {
+        read = read.next(*x);
     }
-    print::text(&lines[from..]);
-    answer(kind == b'c', read);
+    answer(rt, *kind == b'c', read.next(b'\n'))
 }
 
-fn answer(carry: bool, read: Numbers) {
+fn answer(rt: &impl Print, carry: bool, read: Numbers) -> io::Result<()> {
     let t = Task {
         carry: carry,
         a: read.get(0),
@@ -60,5 +58,5 @@ fn answer(carry: bool, read: Numbers) {
         step: read.get(4),
         many: read.get(5),
     };
-    task::show(task::ask(t, r));
+    task::show(rt, task::ask(t, r))
 }

@@ -25,12 +25,10 @@ pub(crate) fn list(seed: u64, kind: u64, n: u64) -> List {
         step: 0,
         many: 0,
     }; 5];
-    let mut k: u64 = 0;
-    while k < 5 {
-        let own = pseudo_random::mixed(std::num::wrapping_add_u64(seed, 10 + k));
+    for k in 0..5u64 {
+        let own = pseudo_random::mixed(seed.wrapping_add(10 + k));
         let r = run_at(own, kind, x, k == spoiled);
         runs[k as usize] = task::run_of(r.first, r.step, r.many);
-        k += 1;
     }
     runs
 }
@@ -58,7 +56,7 @@ fn lawful(seed: u64, kind: u64, x: u64) -> RunBits {
             let y = if kind == 2 { near(seed, x) } else { x };
             let step = step_at(seed, kind);
             let down = draw(seed, 4, steps(y, step));
-            let up = draw(seed, 5, steps(std::num::wrapping_sub_u64(WIDTH, y), step));
+            let up = draw(seed, 5, steps(WIDTH.wrapping_sub(y), step));
             through(y, step, down, up)
         }
     }
@@ -67,21 +65,21 @@ fn lawful(seed: u64, kind: u64, x: u64) -> RunBits {
 // The run that goes through x, with some numbers below it and some above it.
 fn through(x: u64, step: u64, down: u64, up: u64) -> RunBits {
     let below = down % 2147483648 * (step % 2147483648);
-    let others = std::num::wrapping_add_u64(down, up);
+    let others = down.wrapping_add(up);
     RunBits {
-        first: std::num::wrapping_sub_u64(std::num::wrapping_sub_u64(x, below), 1000000000),
+        first: x.wrapping_sub(below).wrapping_sub(1000000000),
         step: if others == 0 { 0 } else { step },
-        many: std::num::wrapping_add_u64(others, 1),
+        many: others.wrapping_add(1),
     }
 }
 
 fn near(seed: u64, x: u64) -> u64 {
-    std::num::wrapping_add_u64(x, draw(seed, 1, 3)) % (WIDTH + 1)
+    x.wrapping_add(draw(seed, 1, 3)) % (WIDTH + 1)
 }
 
 fn step_at(seed: u64, kind: u64) -> u64 {
     let size = draw(seed, 2, if kind == 0 { 4 } else { 8 }) % 8;
-    std::num::wrapping_add_u64(draw(seed, 3, SIZES[size as usize]), 1)
+    draw(seed, 3, SIZES[size as usize]).wrapping_add(1)
 }
 
 // How many numbers there are on the way, the one at its start with them.
@@ -89,7 +87,7 @@ fn steps(way: u64, step: u64) -> u64 {
     if step == 0 {
         return 1;
     }
-    std::num::wrapping_add_u64(way / step, 1)
+    (way / step).wrapping_add(1)
 }
 
 // Out of the range, falling, or too long; and so not in its one form, if it was empty or a single number too.
@@ -97,13 +95,13 @@ fn spoil(r: RunBits, how: u64) -> RunBits {
     let mut s = r;
     match how {
         0 => {
-            s.first = std::num::wrapping_add_u64(r.first, WIDTH + 1);
+            s.first = r.first.wrapping_add(WIDTH + 1);
         }
         1 => {
-            s.step = std::num::wrapping_sub_u64(18446744073709551615, r.step);
+            s.step = 18446744073709551615u64.wrapping_sub(r.step);
         }
         _ => {
-            s.many = std::num::wrapping_add_u64(r.many, WIDTH + 1);
+            s.many = r.many.wrapping_add(WIDTH + 1);
         }
     }
     s
@@ -114,5 +112,5 @@ fn draw(seed: u64, place: u64, limit: u64) -> u64 {
     if limit == 0 {
         return 0;
     }
-    pseudo_random::mixed(std::num::wrapping_add_u64(seed, place)) / 65536 % limit
+    pseudo_random::mixed(seed.wrapping_add(place)) / 65536 % limit
 }

@@ -6,7 +6,7 @@
 use crate::task::{RunBits, Task};
 
 /// The run that was found so far, and its last number.
-#[derive(Drop)]
+#[derive(Clone, Copy)]
 struct Found {
     first: u64,
     step: u64,
@@ -22,13 +22,11 @@ pub(crate) fn result(t: Task, r: RunBits) -> RunBits {
         many: 0,
         last: 0,
     };
-    let mut i: u64 = 0;
-    while i < 67 {
-        let x = std::num::wrapping_sub_u64(i, 33);
+    for i in 0..67u64 {
+        let x = i.wrapping_sub(33);
         if is_answer(t, r, x) {
             f = f.with(x);
         }
-        i += 1;
     }
     RunBits {
         first: f.first,
@@ -42,9 +40,9 @@ impl Found {
     fn with(self, x: u64) -> Found {
         let mut f = self;
         let many = self.many;
-        let way = std::num::wrapping_sub_u64(x, self.last);
+        let way = x.wrapping_sub(self.last);
         f.last = x;
-        f.many = std::num::wrapping_add_u64(many, 1);
+        f.many = many.wrapping_add(1);
         match many {
             0 => {
                 f.first = x;
@@ -79,20 +77,18 @@ fn is_answer(t: Task, r: RunBits, x: u64) -> bool {
 // Has x a partner among the numbers of r: a q with which the equation holds, or itself?
 fn has_partner(t: Task, r: RunBits, x: u64) -> bool {
     let mut q = r.first;
-    let mut k: u64 = 0;
-    while k < r.many {
+    for _ in 0..r.many {
         if are_partners(t, x, q) {
             return true;
         }
-        q = std::num::wrapping_add_u64(q, r.step);
-        k += 1;
+        q = q.wrapping_add(r.step);
     }
     false
 }
 
 fn are_partners(t: Task, p: u64, q: u64) -> bool {
     if t.carry {
-        std::num::wrapping_add_u64(times(t.a, p), times(t.b, q)) == t.c
+        times(t.a, p).wrapping_add(times(t.b, q)) == t.c
     } else {
         p == q
     }
@@ -101,22 +97,19 @@ fn are_partners(t: Task, p: u64, q: u64) -> bool {
 // A product with a number from -4 to 4.
 fn times(a: u64, x: u64) -> u64 {
     if 4 < a {
-        return multiple(
-            std::num::wrapping_sub_u64(0, a),
-            std::num::wrapping_sub_u64(0, x),
-        );
+        return multiple(0u64.wrapping_sub(a), 0u64.wrapping_sub(x));
     }
     multiple(a, x)
 }
 
 // From 0 to 4.
 fn multiple(a: u64, x: u64) -> u64 {
-    let double = std::num::wrapping_add_u64(x, x);
+    let double = x.wrapping_add(x);
     match a {
         0 => 0,
         1 => x,
         2 => double,
-        3 => std::num::wrapping_add_u64(double, x),
-        _ => std::num::wrapping_add_u64(double, double),
+        3 => double.wrapping_add(x),
+        _ => double.wrapping_add(double),
     }
 }

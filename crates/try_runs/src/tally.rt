@@ -1,6 +1,8 @@
 //! How many trials agree, and what their results are.
 
-#[derive(Drop)]
+use std::io;
+
+#[derive(Clone, Copy)]
 pub struct Tally {
     pub agree: u64,
     pub empty: u64,
@@ -23,13 +25,13 @@ impl Tally {
         let mut t = self;
         match many {
             0 => {
-                t.empty = std::num::wrapping_add_u64(self.empty, 1);
+                t.empty = self.empty.wrapping_add(1);
             }
             1 => {
-                t.single = std::num::wrapping_add_u64(self.single, 1);
+                t.single = self.single.wrapping_add(1);
             }
             _ => {
-                t.longer = std::num::wrapping_add_u64(self.longer, 1);
+                t.longer = self.longer.wrapping_add(1);
             }
         }
         t
@@ -38,19 +40,19 @@ impl Tally {
     pub(crate) fn agreeing(self, agree: bool) -> Tally {
         let mut t = self;
         if agree {
-            t.agree = std::num::wrapping_add_u64(self.agree, 1);
+            t.agree = self.agree.wrapping_add(1);
         }
         t
     }
 
-    pub(crate) fn show(self, working: &[u8], cases: &[u8]) {
-        print::text(working);
-        print::counted(cases, self.agree);
-        print::text(b" agree\n");
-        print::text(working);
-        print::counted(b" results ", self.empty);
-        print::counted(b" empty ", self.single);
-        print::counted(b" single ", self.longer);
-        print::text(b" longer\n");
+    pub(crate) fn show(self, rt: &impl Print, working: &str, cases: &str) -> io::Result<()> {
+        let Tally {
+            agree,
+            empty,
+            single,
+            longer,
+        } = self;
+        println!(rt; "{working}{cases}{agree} agree")?;
+        println!(rt; "{working} results {empty} empty {single} single {longer} longer")
     }
 }

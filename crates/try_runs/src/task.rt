@@ -1,9 +1,10 @@
 //! A working with its arguments, and its answer. Numbers are in two's complement.
 
 use runs::{Equation, Run, Working};
+use std::io;
 
 /// A run.
-#[derive(Drop)]
+#[derive(Clone, Copy)]
 pub struct RunBits {
     pub first: u64,
     pub step: u64,
@@ -11,7 +12,7 @@ pub struct RunBits {
 }
 
 /// What is done with a run: it is carried by an equation a·p + b·q = c, or met with the run whose first number, step and length these are.
-#[derive(Drop)]
+#[derive(Clone, Copy)]
 pub struct Task {
     pub carry: bool,
     pub a: u64,
@@ -50,39 +51,29 @@ fn signed(x: u64) -> i64 {
 /// In two's complement.
 pub(crate) fn bits(x: i64) -> u64 {
     if x < 0 {
-        return std::num::wrapping_sub_u64(0, ints::size(x));
+        return 0u64.wrapping_sub(ints::size(x));
     }
     ints::size(x)
 }
 
 /// Prints the answer: first, step, how many; or the reason and the row.
-pub(crate) fn show(w: Working) {
+pub(crate) fn show(rt: &impl Print, w: Working) -> io::Result<()> {
     match w {
-        Working::Gives(r) => {
-            print::text(b" is ");
-            print::number(r.first);
-            print::text(b" ");
-            print::number(r.step);
-            print::counted(b" ", r.many as u64);
-        }
-        Working::Refused(r) => {
-            print::counted(b" refused ", r.number() as u64);
-            print::counted(b" row ", r.row() as u64);
-        }
+        Working::Gives(r) => println!(rt; " is {} {} {}", r.first, r.step, r.many),
+        Working::Refused(r) => println!(rt; " refused {} row {}", r.number(), r.row()),
     }
-    print::text(b"\n");
 }
 
 /// Are the two answers one? If not, both are printed.
-pub(crate) fn agrees(x: Working, y: Working) -> bool {
+pub(crate) fn agrees(rt: &impl Print, x: Working, y: Working) -> io::Result<bool> {
     if is_same(x, y) {
-        return true;
+        return Ok(true);
     }
-    print::text(b"disagree:");
-    show(x);
-    print::text(b"and:");
-    show(y);
-    false
+    print!(rt; "disagree:")?;
+    show(rt, x)?;
+    print!(rt; "and:")?;
+    show(rt, y)?;
+    Ok(false)
 }
 
 fn is_same(x: Working, y: Working) -> bool {
