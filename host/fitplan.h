@@ -12,7 +12,7 @@
  *   - a length is the true length of its buffer;
  *   - no two buffers of a call overlap, the job and the amendments included;
  *   - the buffers stay valid until the call returns, and nothing else writes to them meanwhile;
- *   - there is room on the stack: a call takes some 39 kB;
+ *   - there is room on the stack for some 39 kB: a call takes some 22 kB today, and may take more later;
  *   - the ABI's rules hold, without an operating system too: stack alignment, red zone, SSE2 on.
  *
  * What the host can rely on: job and amendments may be any bytes at all; given that stack every call
@@ -201,8 +201,9 @@ struct fit_call {
     size_t amendments_length;
 };
 
-/* ---- The archive. Nothing checks these declarations against its source: host/fitplan.h and
- * crates/host/src/lib.rt are to be kept side by side. ---- */
+/* ---- The archive. Nothing checks these declarations against its source: host/fitplan.h,
+ * crates/host/src/lib.rt (the structs) and crates/host_c/src/lib.rt (the entries) are to be kept side
+ * by side. ---- */
 
 /* What a planning call gives. A field that does not apply is 0. */
 struct fit_outcome {
