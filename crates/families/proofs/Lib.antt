@@ -15,8 +15,9 @@ pub mod JoinedRuns
 pub mod Subfamily
 -- an equation inside a component leaves all, one index or none: `cycle_leaves`
 pub mod CycleStep
--- an equation between two components leaves the pairs of members for which it holds (`join-Pairs`), rising (`join_rises`)
+-- the pairs of indices at which an equation holds (`Pairs`), and that they are turned so that the lowest variable rises (`directed_is`)
 pub mod JoinPairs
+-- an equation between two components leaves the pairs of members for which it holds (`join-Pairs`), rising (`join_rises`)
 pub mod JoinStep
 -- what one equation leaves, in one form for both: `kept_is`
 pub mod OneEquation
@@ -37,19 +38,20 @@ pub mod FamilySizes
 -- the model ends in the definitions (`exact`): the solutions of each component **are** base + step·k (`are_families`), none exactly
 -- when the family is empty (`empty_iff`)
 pub mod ModelIsExact
+-- which member is chosen, by the slope: `choice_up`, `choice_down`, `choice_level`
+pub mod Choice
 -- the best of one component: the last of its family where the slope is 0 or more, and the first elsewhere (`choice-Optimal`,
 -- `best-member`, `chosen_is`)
-pub mod Choice
 pub mod BestOfComponent
 -- a component with a slope other than 0, or with one solution, has one best and one chosen k, whatever the tie-break: `one_best`,
--- `one_Choice`
+-- `one_choice`
 pub mod OneBest
 -- the best of each component, put together, is the best of the job: `objective_parts`, `assembled-Optimal`, **`plan_Optimal`**,
 -- `plan_best`; there is a solution exactly when no component is empty (`solvable_iff`)
 pub mod BestOfJob
 -- the best of a lawful job, by what the model ends in: `lawful_Optimal`, `lawful_best`
 pub mod PlanIsBest
--- what the model finds is what the definitions find (`findings_by_lem`), and so are its verdict and sheet (`verdict_by_lem`, `sheet-by`)
+-- what the model finds is what the definitions find (`findings_by_lem`), and so are its verdict and sheet (`verdict_by_lem`, `areas_by_lem`)
 pub mod ModelFindings
 -- the model at worked jobs: `marked`, `fitted_model`, `sought_model`
 pub mod ModelVectors

@@ -59,7 +59,7 @@ pub(crate) fn write(rt: &impl Print, page: &Page, used: usize) -> io::Result<()>
     print_part(rt, page, used)
 }
 
-// By itself, as the prover covers a part of a slice, and none of an array behind a reference.
+// The part of a page that has something.
 fn print_part(rt: &impl Print, page: &[u8], used: usize) -> io::Result<()>
     requires { used ≤ length page.now }
 {

@@ -42,9 +42,9 @@ pub mod Solutions
 -- when each component has one (`some_iff`)
 pub mod Assembly
 -- equations that join no two counts, in document 02's words: they say coefficient · home = c (`value_is`); 0 = c with c not 0 leaves its
--- group without a fit (`Leaves-none`), and 0 = 0 leaves everything (`always`)
+-- group without a fit (`leaves_none`), and 0 = 0 leaves everything (`always`)
 pub mod UnaryEquations
--- where the best stands among the solutions: `Chosen-at`
+-- where the best stands among the solutions: `chosen_at`
 pub mod PlaceOfBest
 -- what no tie-break moves: bases, steps, fits, gains and worth are the same by any order among equals (`any_order`), and so by
 -- document 01's (`lower_first`)
@@ -59,7 +59,7 @@ pub mod MapFields
 pub mod SameEquations
 -- every area after a call, case by case: `if_planned`, `if_refused`, `past_sheet`, `past_map`
 pub mod AreasAfter
--- the definitions keep the demands (`turns_away`, `cannot_be_bettered`, `shows_map`; of the second all but the families, `Gives-fits`)
+-- the definitions keep the demands (`turns_away`, `cannot_be_bettered`, `shows_map`; of the second all but the families, `gives_fits`)
 pub mod DemandsHold
 -- verdict and areas, case by case, from the first fault of a call: `as_broken`, `as_fitting`
 pub mod Outcomes

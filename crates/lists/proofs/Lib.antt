@@ -1,6 +1,6 @@
 -- The laws of the definitions in specs/, in the order in which they rest on each other.
 
--- members by their places (`member_at`, `place_of`), and of ++, map and flatMap (`in-append`, `in-map`, `in-flat_map`)
+-- members by their places (`member_at`, `place_of`), and of ++, map and flat_map (`in-append`, `in-map`, `in-flat_map`)
 pub mod Members
 -- what stands at each place of a list, and of lists one behind the other: `same_places`, `flat_map_at`
 pub mod Places

@@ -1,4 +1,4 @@
--- A test put to the members of a list. A Bool is all that a search needs to compute; the kit's `filter` takes a decision.
+-- A test put to the members of a list. A Bool is all that a search needs to compute.
 use Rattle.std.specs.Prelude.{Bool, true, false, cond, ◌&&◌, ◌||◌, List, [], ◌∷◌, ℕ, suc}
 
 -- the members that pass, in their order

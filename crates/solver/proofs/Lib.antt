@@ -22,5 +22,5 @@ pub mod LawfulRows
 pub mod StructurePass
 -- the arrays follow the model, for bytes and bounds
 pub mod FollowsWithBounds
--- the labels of a job that is read are the definition's (`Label-is`), and so many components there are (`counted`)
+-- the labels of a job that is read are the definition's (`label_is`), and so many components there are (`counted`)
 pub mod LabelsOfJob

@@ -1,5 +1,5 @@
-//! The runs of all variables field by field, as the loop over the equations keeps them: an array of numbers can be lent and written in
-//! place, and an array of structs is copied whenever it is passed on, which would cost more than all the loop's sums.
+//! The runs of all variables field by field, as the loop over the equations keeps them: three arrays of numbers, lent and written in
+//! place, of which a step reads and writes no more than it needs.
 
 ghost use Rattle.std.specs.Prelude.{◌≡◌, ◌≤◌, length};
 ghost use Rattle.lists.specs.Table.{Tabulates};
