@@ -1,4 +1,4 @@
--- The choice in one component, where its solutions in order are base + step-k, k = 0 to fits − 1: the last of them is the best where
+-- The choice in one component, where its solutions in order are base + step·k, k = 0 to fits − 1: the last of them is the best where
 -- the slope is 0 or more, and the first elsewhere. c is the component's own job, and its slope is `slope c`.
 use mathlib.Core.Path.{◌≡◌, refl, sym, ◌∙◌, ap}
 use mathlib.Core.Logic.{◌⊎◌, inl, inr}

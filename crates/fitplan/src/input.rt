@@ -23,7 +23,8 @@ pub(crate) fn asks_for_map(rt: &impl Env) -> bool {
 /// `crates/jobs/proofs/LongInput.antt`: verdict and areas are the same).
 pub type Buffer = [u8; 23577];
 
-/// Reads until the input ends or the buffer is full, and gives how many bytes there are.
+/// Reads until the input ends or the buffer is full, and gives how many bytes there are. It fails where a read does; what the buffer has
+/// then is not told.
 pub(crate) fn read(rt: &impl Input, b: &mut Buffer) -> io::Result<usize>
     ensures prefix { ReadsAtMost result b.new }
     ensures retried { IfErr result (λ e. error_kind e ≢ ErrorKind.Interrupted) }
@@ -95,6 +96,6 @@ fn read_full(reader: &mut impl Read, b: &mut [u8]) -> io::Result<usize>
             }
         }
     }
-    // 2^64 reads take longer than any machine lives.
+    // As std's readers give up; so many reads take longer than any machine lives.
     Err(io::Error::from(ErrorKind::TimedOut))
 }

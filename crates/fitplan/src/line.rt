@@ -1,6 +1,6 @@
 //! A line of output.
 
-ghost use Rattle.std.specs.Prelude.{◌≤◌, IfOk};
+ghost use Rattle.std.specs.Prelude.{◌≡◌, ◌≤◌, IfOk, OnErr};
 
 use crate::page;
 use crate::page::Page;
@@ -60,7 +60,8 @@ impl Line {
     /// Puts it on the page, with its end, and gives how many bytes the page has then.
     pub(crate) fn end(self, rt: &impl Print, page: &mut Page, used: usize) -> io::Result<usize>
         requires { used ≤ 16384 }
-        ensures { IfOk result (λ end. end ≤ 16384) }
+        ensures bound { IfOk result (λ end. end ≤ 16384) }
+        ensures unwritten { OnErr result (page.new ≡ page.old) }
     {
         let line = self.byte(b'\n');
         let bytes = line.bytes;

@@ -1,4 +1,5 @@
-//! What is printed of a plan, as document 01 shows it. A sheet's lines are read off its bytes.
+//! What is printed of a plan, as document 01 shows it. A sheet's lines are read off its bytes. Where a write fails, the page has some of
+//! the lines, and the rest are not made.
 
 ghost use Rattle.std.specs.Prelude.{◌≤◌, ◌<◌, IfOk};
 

@@ -10,8 +10,8 @@ use std::io::{ErrorKind, Read};
 
 pub type Text = [u8; 16384];
 
-/// Reads the text, as far as there is room. What is given is its length. It fails as a read of standard input does, and in no other
-/// way; what the text has then is not told.
+/// Reads the text, as far as there is room. What is given is its length. It fails where a read of standard input does, and after 2^64
+/// tries, as std's readers do, with `TimedOut`; what the text has then is not told.
 pub fn read(rt: &impl Input, text: &mut Text) -> io::Result<usize>
     ensures prefix { ReadsAtMost result text.new }
     ensures retried { IfErr result (λ e. error_kind e ≢ ErrorKind.Interrupted) }
@@ -40,7 +40,7 @@ fn read_full(reader: &mut impl Read, text: &mut [u8]) -> io::Result<usize>
             }
         }
     }
-    // 2^64 reads take longer than any machine lives.
+    // As std's readers give up; so many reads take longer than any machine lives.
     Err(io::Error::from(ErrorKind::TimedOut))
 }
 
