@@ -1,4 +1,5 @@
-//! What is printed of a map: a line for its header, for each count and for each equation, read off its bytes.
+//! What is printed of a map: a line for its header, for each count and for each equation, read off its bytes. Where a write fails, the
+//! page has some of the lines, and the rest are not made.
 
 ghost use Rattle.std.specs.Prelude.{◌≤◌, ◌<◌, IfOk};
 

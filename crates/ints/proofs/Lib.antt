@@ -1,6 +1,6 @@
 -- Laws of ℤ, for the proofs of every crate. Most of what a proof needs comes from this root:
 --
---     use Rattle.ints.proofs.{ℤ, pos, _+ℤ_, _*ℤ_, _≤ℤ_, List, [], _∷_, arith, ring, terms, lin, lin₀, _&_, facts, prod}
+--     use Rattle.ints.proofs.{ℤ, pos, ◌+ℤ◌, ◌*ℤ◌, ◌≤ℤ◌, List, [], ◌∷◌, arith, ring, terms, lin, lin₀, ◌&◌, facts, prod}
 --
 -- One example of each tool; Examples.antt has these and more, and the must-fail edits beside it show what each refuses.
 --
@@ -14,7 +14,7 @@
 --     grows s k h l = lin (s ∷ k ∷ []) (prod h l) (search facts depth 20) (omega arith)
 --
 --     fits : (x y : ℤ) → Within 2000000000 x → Within 2000000000 y → SFits w64 (x *ℤ y)
---     fits x y h k = lin (x ∷ y ∷ []) (within-mul h k) (search signed depth 20) (omega arith)
+--     fits x y h k = lin (x ∷ y ∷ []) (Within-mul h k) (search signed depth 20) (omega arith)
 --
 -- A few habits. `≤ℤ` binds tighter than `+ℤ`: write (x +ℤ pos 1) ≤ℤ z. ℤ's operations compute at constructors, and `lin`
 -- does not read what is left of `pos n +ℤ pos 1`: state the step over variables of ℤ, and instantiate it. A fact that is

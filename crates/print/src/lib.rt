@@ -1,4 +1,4 @@
-//! Standard output for the programs: text and whole numbers.
+//! Standard output for the print program: text and whole numbers.
 #![tactic(auto)]
 
 use std::io;
