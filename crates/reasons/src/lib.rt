@@ -53,17 +53,15 @@ impl Reason {
             Reason::WrongMark => 2,
             Reason::TooMany => 3,
             Reason::WrongHeader => 4,
-            Reason::VariableRange(_) => 5,
+            Reason::VariableRange(_) | Reason::AmendmentRange(_) => 5,
             Reason::EquationVariables(_) => 6,
             Reason::EquationRange(_) => 7,
             Reason::ShortArea => 8,
             Reason::WrongArgument => 9,
             Reason::ShortMap => 10,
-            Reason::AmendmentsLength => 11,
-            Reason::AmendmentZero(_) => 11,
+            Reason::AmendmentsLength | Reason::AmendmentZero(_) => 11,
             Reason::AmendmentReference(_) => 12,
             Reason::AmendmentTwice(_) => 13,
-            Reason::AmendmentRange(_) => 5,
         }
     }
 
@@ -72,21 +70,14 @@ impl Reason {
         ensures { result ≡ row_of self }
     {
         match self {
-            Reason::ShortJob => 0,
-            Reason::WrongMark => 0,
-            Reason::TooMany => 0,
-            Reason::WrongHeader => 0,
-            Reason::VariableRange(row) => row,
-            Reason::EquationVariables(row) => row,
-            Reason::EquationRange(row) => row,
-            Reason::ShortArea => 0,
-            Reason::WrongArgument => 0,
-            Reason::ShortMap => 0,
-            Reason::AmendmentsLength => 0,
-            Reason::AmendmentZero(row) => row,
-            Reason::AmendmentReference(row) => row,
-            Reason::AmendmentTwice(row) => row,
-            Reason::AmendmentRange(row) => row,
+            Reason::VariableRange(row)
+            | Reason::EquationVariables(row)
+            | Reason::EquationRange(row)
+            | Reason::AmendmentZero(row)
+            | Reason::AmendmentReference(row)
+            | Reason::AmendmentTwice(row)
+            | Reason::AmendmentRange(row) => row,
+            _ => 0,
         }
     }
 }
