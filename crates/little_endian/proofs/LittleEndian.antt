@@ -49,33 +49,6 @@ unsigned-bytes_of (suc k) x h =
     let l : x < 256 * 256 ^ k = rw (pow-succ' 256 k) at h in
     rw (unsigned_past k ((x % 256) ∷ []) (bytes_of k (x / 256)) 0 refl, unsigned-bytes_of k (x / 256) (omega arith)) (omega arith)
 
--- ---- as the code reads them: one byte more in front
-pub unsigned_none : (s : List ℕ) (at : ℕ) → 0 ≡ unsigned 0 s at
-unfolding unsigned
-unsigned_none s at = refl
-
-pub unsigned_more : (k : ℕ) (s : List ℕ) (at : ℕ) {x : ℕ} → x ≡ unsigned k s (at + 1) → 256 * x + get_or s at 0 ≡ unsigned (suc k) s at
-unfolding unsigned
-unsigned_more k s at e = rw (← e) (omega arith)
-
-pub below_more : (k : ℕ) {x b : ℕ} → x < 256 ^ k → b < 256 → 256 * x + b < 256 ^ suc k
-below_more k h l = rw (pow-succ' 256 k) (omega arith)
-
--- ---- as the code writes them: one byte more behind
--- what is left of x after i bytes
-abbrev pub shifted : ℕ → ℕ → ℕ
-shifted zero x = x
-shifted (suc i) x = shifted i (x / 256)
-
-pub shifted_next : (i x : ℕ) → shifted i x / 256 ≡ shifted (suc i) x
-shifted_next zero x = refl
-shifted_next (suc i) x = shifted_next i (x / 256)
-
-pub bytes_next : (i x : ℕ) → bytes_of i x ++ (shifted i x % 256) ∷ [] ≡ bytes_of (suc i) x
-unfolding bytes_of
-bytes_next zero x = refl
-bytes_next (suc i) x = ap (λ r. (x % 256) ∷ r) (bytes_next i (x / 256))
-
 pub length-bytes_of : (k x : ℕ) → length (bytes_of k x) ≡ k
 unfolding bytes_of
 length-bytes_of zero x = refl

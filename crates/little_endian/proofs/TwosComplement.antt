@@ -1,35 +1,19 @@
--- Numbers below 0 in bytes: what k bytes say in two's complement, and that those of a number say that number.
+-- Numbers below 0 in bytes: the k bytes of a number, in two's complement, say that number.
 use mathlib.Core.Path.{◌≡◌, refl, sym, ◌∙◌, ap}
 use mathlib.Core.Logic.{◌⊎◌, inl, inr}
 use mathlib.Core.Bool.{cond}
 use mathlib.Core.List.{List}
-use Prim.Native.Nat.{ℕ, ◌+◌, ◌*◌, ◌-◌, ◌/◌, ◌^◌, ◌≤◌, ◌<◌}
+use Prim.Native.Nat.{ℕ, ◌+◌, ◌*◌, ◌-◌, ◌^◌, ◌≤◌, ◌<◌}
 use lib.Dec.{ltb}
 use lib.ListN.{length}
 use borrow.Author.Tests.{lt-ltb, le-ltb}
-use mir.Syntax.{w64}
-use mir.Val.{SFits}
-use mir.Facts.{to_z-of_z}
 use Rattle.ints.specs.Within.{Within}
 use Rattle.ints.specs.Floor.{floor_mod}
-use Rattle.ints.proofs.{ℤ, pos, negsuc, neg_ℤ, nat_abs, ◌+ℤ◌, ◌-ℤ◌, ◌*ℤ◌, ◌≤ℤ◌, ◌<ℤ◌, [], ◌∷◌, arith, le_or_lt, lin, ◌&◌, facts}
+use Rattle.ints.proofs.{ℤ, pos, neg_ℤ, nat_abs, ◌+ℤ◌, ◌-ℤ◌, ◌*ℤ◌, ◌≤ℤ◌, ◌<ℤ◌, [], ◌∷◌, arith, le_or_lt, lin, ◌&◌, facts}
 use Rattle.ints.proofs.Order.{abs_nonneg, abs_nonpos}
 use Rattle.ints.proofs.Residues.{residue_below, residue_whole}
-use Rattle.ints.proofs.Signed.{held}
 use Rattle.little_endian.specs.LittleEndian.{unsigned, twos_complement, bytes_of, signed_bytes}
-use Rattle.little_endian.specs.Method.{Residue}
 use Rattle.little_endian.proofs.LittleEndian.{unsigned-bytes_of, length-bytes_of}
-
--- ---- two's complement, as the code has it: up to half of the greatest number the number itself, and else −1 less what is
--- left up to the greatest
-pub low_half : (most x k : ℕ) → x ≤ most / 2 → most + 1 ≡ 256 ^ k → pos x ≡ twos_complement k x
-low_half most x k h e = rw (lt-ltb (2 * x) (256 ^ k) (omega arith))
-
-turned : (d x p : ℕ) → d + x + 1 ≡ p → negsuc 0 -ℤ pos d ≡ pos x -ℤ pos p
-turned d x p e = lin (pos d ∷ pos x ∷ pos p ∷ []) e (search facts depth 20) (omega arith)
-
-pub high_half : (most x k : ℕ) → most / 2 < x → x ≤ most → most + 1 ≡ 256 ^ k → negsuc 0 -ℤ pos (most - x) ≡ twos_complement k x
-high_half most x k h l e = rw (le-ltb (2 * x) (256 ^ k) (omega arith)) (turned (most - x) x (256 ^ k) (omega arith))
 
 -- ---- written and read back
 module _ (p : ℕ) (x : ℤ) (a : neg_ℤ (pos p) ≤ℤ (pos 2 *ℤ x)) (b : (pos 2 *ℤ x) <ℤ pos p) where
@@ -84,7 +68,7 @@ Within-fits k m x h w = let (a, b) = double (256 ^ k) m x h w in record { low = 
 twos_complement_back : (k : ℕ) (x : ℤ) → FitsBytes k x → twos_complement k (nat_abs (floor_mod x (pos (256 ^ k)))) ≡ x
 twos_complement_back k x h = back (256 ^ k) x h.low h.high
 
-signed_bytes_is : (k : ℕ) (x : ℤ) → signed_bytes k x ≡ bytes_of k (nat_abs (floor_mod x (pos (256 ^ k))))
+pub signed_bytes_is : (k : ℕ) (x : ℤ) → signed_bytes k x ≡ bytes_of k (nat_abs (floor_mod x (pos (256 ^ k))))
 unfolding signed_bytes
 signed_bytes_is k x = refl
 
@@ -98,11 +82,6 @@ signed_back k x h =
 -- and so does a field that holds them
 pub signed_field : (k : ℕ) {u : ℕ} (x : ℤ) → u ≡ unsigned k (signed_bytes k x) 0 → FitsBytes k x → twos_complement k u ≡ x
 signed_field k x e h = ap (twos_complement k) e ∙ signed_back k x h
-
--- as the code writes them: the bytes of what is left of a number that a local holds
-pub signed_bytes_lem : (k most : ℕ) {x : ℤ} (r : ℕ) → most + 1 ≡ 256 ^ k → SFits w64 x → Residue most (held x) r → bytes_of k r ≡ signed_bytes k x
-unfolding signed_bytes
-signed_bytes_lem k most r e f h = ap (bytes_of k) (h.same k e ∙ ap (λ x. nat_abs (floor_mod x (pos (256 ^ k)))) (to_z-of_z f))
 
 pub length-signed_bytes : (k : ℕ) (x : ℤ) → length (signed_bytes k x) ≡ k
 unfolding signed_bytes
