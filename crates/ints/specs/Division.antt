@@ -1,17 +1,9 @@
 -- Document 01, "Workings": what division answers for every pair of numbers.
 use Rattle.std.specs.Prelude.{Bool, not, ◌&&◌, ◌≢◌, ℕ, ℤ, pos}
-use Rattle.reasons.specs.Numbers.{number_of, row_of}
-use Rattle.reasons.specs.Answer.{WorkingAnswer, gives, refused, answer_if}
+use Rattle.reasons.specs.Answer.{WorkingAnswer, answer_if}
 use Rattle.ints.specs.Within.{Within, is_within}
 use Rattle.ints.specs.Equal.{is_equal}
 use Rattle.ints.specs.Floor.{floor_div}
-use Rattle.ints.specs.declared.Division.{Division}
-use Rattle.ints.specs.declared.Division.TheVariants.{Quotient, Refused}
-
--- what each case of the program's enum says
-abbrev pub division_answer_of : Division → WorkingAnswer ℤ
-division_answer_of (Quotient q) = gives q
-division_answer_of (Refused r) = refused (number_of r) (row_of r)
 
 abbrev pub limit : ℕ
 limit = 4000000000000000000

@@ -3,29 +3,23 @@
 //! Read `specs/Lib.antt` for the definitions, then this file; `proofs/Lib.antt` says what other proofs import.
 #![tactic(auto)]
 
-ghost use Rattle.std.specs.Prelude.{◌≡◌, ◌≢◌, pos, nat_abs};
+ghost use Rattle.std.specs.Prelude.{◌≡◌, ◌≢◌, pos};
+ghost use Rattle.reasons.specs.Answer.{working_answer_of};
 ghost use Rattle.ints.specs.Within.{Within, is_within};
 ghost use Rattle.ints.specs.Floor.{floor_div, floor_mod, ceil_div};
-ghost use Rattle.ints.specs.Division.{division_answer_of, division, limit, DivisionLimits, division_limits};
+ghost use Rattle.ints.specs.Division.{division, limit, DivisionLimits, division_limits};
 
 use reasons::Reason;
 
-/// What `divide` answers.
-#[derive(Clone, Copy)]
-pub enum Division {
-    Quotient(i64),
-    Refused(Reason),
-}
-
 /// n / d rounded towards the lower whole number, also when either is negative. Refused where d is 0, or n or d is
 /// larger in size than 4,000,000,000,000,000,000.
-pub fn divide(n: i64, d: i64) -> Division
-    ensures { division_answer_of result ≡ division n d }
+pub fn divide(n: i64, d: i64) -> Result<i64, Reason>
+    ensures { working_answer_of result ≡ division n d }
 {
     if in_limits(n, d) {
-        Division::Quotient(floor_div(n, d))
+        Ok(floor_div(n, d))
     } else {
-        Division::Refused(Reason::WrongArgument)
+        Err(Reason::WrongArgument)
     }
 }
 
@@ -56,12 +50,7 @@ pub fn remainder(n: i64, d: i64) -> i64
 fn in_limits(n: i64, d: i64) -> bool
     ensures { result ≡ division_limits n d }
 {
-    if is_within(LIMIT, n) {
-        if is_within(LIMIT, d) {
-            return d != 0;
-        }
-    }
-    false
+    is_within(LIMIT, n) && is_within(LIMIT, d) && d != 0
 }
 
 const LIMIT: u64 = 4000000000000000000;
@@ -70,18 +59,7 @@ const LIMIT: u64 = 4000000000000000000;
 pub fn is_within(most: u64, x: i64) -> bool
     ensures { result ≡ is_within most x }
 {
-    size(x) <= most
-}
-
-/// x without its sign.
-pub fn size(x: i64) -> u64
-    ensures { result ≡ nat_abs x }
-{
-    if x < 0 {
-        ((-1 - x) as u64) + 1
-    } else {
-        x as u64
-    }
+    x.unsigned_abs() <= most
 }
 
 // `/` rounds towards zero: where the remainder and the divisor have opposite signs, the floor is one less.
