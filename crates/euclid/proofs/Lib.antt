@@ -8,7 +8,7 @@ pub mod EarlyEnd
 pub mod FactorIsGcd
 -- the test `is_coefficient` says what the sentence says (`Coefficient-iff`)
 pub mod Coefficient
--- what the entry answers (`given`, `turned_away`)
+-- what the entry answers (`given`)
 pub mod Answers
 -- Euclid's algorithm with a cofactor: what holds of its numbers (`Inv`), and what callers go by (`gcd_range`, `cofactor_range`)
 pub mod Euclid

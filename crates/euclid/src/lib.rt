@@ -5,36 +5,27 @@
 #![tactic(auto)]
 
 ghost use Rattle.std.specs.Prelude.{◌≡◌, pos, nat_abs, ◌<ℤ◌, ◌≤ℤ◌};
-ghost use Rattle.reasons.specs.Answer.{RefusedUnless};
+ghost use Rattle.reasons.specs.Answer.{working_answer_of, RefusedUnless};
 ghost use Rattle.ints.specs.Within.{Within};
 ghost use Rattle.euclid.specs.Remainders.{early_divisions};
 ghost use Rattle.euclid.specs.Coefficient.{Coefficient, is_coefficient};
-ghost use Rattle.euclid.specs.CommonDivisor.{common_divisor_of, common_divisor};
+ghost use Rattle.euclid.specs.CommonDivisor.{common_divisor};
 ghost use Rattle.euclid.specs.Factor.{IsFactor};
 
 use reasons::Reason;
 
-/// What `common_divisor` answers.
-#[derive(Clone, Copy)]
-pub enum CommonDivisor {
-    /// The greatest, and the number of divisions made.
-    Greatest(i64, u32),
-    Refused(Reason),
-}
-
-/// The greatest common divisor of two numbers, document 02's factor: by remainders of their sizes, the first divided by the second to
+/// The greatest common divisor of two numbers, document 02's factor, and the number of divisions made: by remainders of their sizes, the first divided by the second to
 /// begin with, ending at the first remainder that is 0 or 1. Refused where a or b is 0 or larger than 1,000,000 in size.
-pub fn common_divisor(a: i64, b: i64) -> CommonDivisor
-    ensures result_value { common_divisor_of result ≡ common_divisor a b }
-    ensures refused_unless { RefusedUnless (Coefficient a × Coefficient b) (common_divisor_of result) }
+pub fn common_divisor(a: i64, b: i64) -> Result<(i64, u32), Reason>
+    ensures answer { working_answer_of result ≡ common_divisor a b }
+    ensures refused_unless { RefusedUnless (Coefficient a × Coefficient b) (working_answer_of result) }
 {
-    if is_coefficient(a) {
-        if is_coefficient(b) {
-            let f = Factor::of(a, ints::size(b) as i64);
-            return CommonDivisor::Greatest(f.gcd, f.divisions);
-        }
+    if is_coefficient(a) && is_coefficient(b) {
+        let f = Factor::of(a, b.abs());
+        Ok((f.gcd, f.divisions))
+    } else {
+        Err(Reason::WrongArgument)
     }
-    CommonDivisor::Refused(Reason::WrongArgument)
 }
 
 /// The greatest common divisor of a and b: a·cofactor is gcd modulo b, and so many divisions were made to find it.
@@ -48,18 +39,17 @@ pub struct Factor {
 impl Factor {
     /// For arguments that are known to be within these limits: with them no step leaves 64 bits.
     pub fn of(a: i64, b: i64) -> Factor
-        requires within { Within 1000000000000000000 a }
-        requires pos_bound { pos 0 <ℤ b }
-        requires b_bound { b ≤ℤ pos 2000000000 }
+        requires first { Within 1000000000000000000 a }
+        requires second_above { pos 0 <ℤ b }
+        requires second_small { b ≤ℤ pos 2000000000 }
         ensures factor { IsFactor a b result.gcd result.cofactor }
-        ensures divisions_value { result.divisions ≡ early_divisions (nat_abs a) (nat_abs b) }
+        ensures divisions { result.divisions ≡ early_divisions (nat_abs a) (nat_abs b) }
     {
         if a < 0 {
             let f = Factor::of_size(-a, b);
             Factor {
-                gcd: f.gcd,
                 cofactor: -f.cofactor,
-                divisions: f.divisions,
+                ..f
             }
         } else {
             Factor::of_size(a, b)
@@ -69,12 +59,12 @@ impl Factor {
     // The remainders r0 and r1 go with cofactors: a·s0 is r0 and a·s1 is r1, modulo b. A remainder of 1 ends it as 0 does: the
     // next division would leave 0, and find 1.
     fn of_size(a: i64, b: i64) -> Factor
-        requires pos_bound { pos 0 ≤ℤ a }
-        requires within { Within 1000000000000000000 a }
-        requires pos_bound_2 { pos 0 <ℤ b }
-        requires b_bound { b ≤ℤ pos 2000000000 }
+        requires not_negative { pos 0 ≤ℤ a }
+        requires first { Within 1000000000000000000 a }
+        requires second_above { pos 0 <ℤ b }
+        requires second_small { b ≤ℤ pos 2000000000 }
         ensures factor { IsFactor a b result.gcd result.cofactor }
-        ensures divisions_value { result.divisions ≡ early_divisions (nat_abs a) (nat_abs b) }
+        ensures divisions { result.divisions ≡ early_divisions (nat_abs a) (nat_abs b) }
     {
         let mut r0 = a;
         let mut r1 = b;
@@ -103,9 +93,9 @@ impl Factor {
         ensures { result ≡ record { gcd = gcd; cofactor = cofactor; divisions = divisions } }
     {
         Factor {
-            gcd: gcd,
-            cofactor: cofactor,
-            divisions: divisions,
+            gcd,
+            cofactor,
+            divisions,
         }
     }
 }
@@ -114,8 +104,5 @@ impl Factor {
 pub fn is_coefficient(x: i64) -> bool
     ensures { result ≡ is_coefficient x }
 {
-    if ints::is_within(1000000, x) {
-        return x != 0;
-    }
-    false
+    ints::is_within(1000000, x) && x != 0
 }

@@ -1,16 +1,15 @@
 -- `Factor::of_size` meets its contract: the loop's invariant is `Turn`, of the numbers that the locals' bits stand for.
 use mathlib.Core.Path.{◌≡◌}
 use mathlib.Core.Logic.{◌↔◌}
-use Prim.Native.Nat.{ℕ, zero, suc, ◌+◌, ◌≤◌, ◌<◌}
-use native.Mathlib.Nat.{zero-lt-suc}
+use Prim.Native.Nat.{ℕ, ◌+◌}
 use mir.Syntax.{w64}
-use mir.Val.{SFits, to_z, of_z}
+use mir.Val.{SFits, of_z}
 use mir.Facts.{to_z-of_z, sfits_lit}
-use Rattle.ints.proofs.{ℤ, pos, nat_abs, ◌-ℤ◌, ◌*ℤ◌, ◌≤ℤ◌, ◌<ℤ◌, quot_z, rem_z, [], ◌∷◌, arith, lin, ◌&◌, signed}
+use Rattle.ints.proofs.{ℤ, pos, ◌-ℤ◌, ◌*ℤ◌, ◌≤ℤ◌, ◌<ℤ◌, quot_z, rem_z, [], ◌∷◌, arith, lin, ◌&◌, signed}
 use Rattle.ints.proofs.Signed.{held, bits_equal}
 use Rattle.ints.proofs.Truncated.{Within-quot, Within-rem}
 use Rattle.euclid.proofs.Euclid.{product_range, s2_range}
-use Rattle.euclid.proofs.Turns.{Turn, first, few, at_zero, at_one, less, again}
+use Rattle.euclid.proofs.Turns.{Turn, first, at_zero, at_one, again}
 use Rattle.euclid.proofs.Factor.of_size.Goals.{At-turns}
 use Rattle.euclid.proofs.Factor.of_size.Goals as goal
 
@@ -46,33 +45,19 @@ module _ {a b r0 r1 s0 s1 : ℤ} {made : ℕ} (t : Turn a b r0 r1 s0 s1 made) (m
   is_one : (of_z w64 r2 ≡ 1) ↔ (r2 ≡ pos 1)
   is_one = bits_equal w64 r2 (pos 1) fits_r (sfits_lit tt)
 
-  falls : nat_abs (held r2) < nat_abs r1
-  falls = rw (to_z-of_z fits_r) (less t)
-
   goes_on : ¬ (of_z w64 r2 ≡ 0) → ¬ (of_z w64 r2 ≡ 1) → Turn a b r1 (held r2) s1 (held (s0 -ℤ held (held q *ℤ s1))) (made + 1)
   goes_on not-0 not-1 = rw (to_z-of_z fits_q, to_z-of_z fits_r, to_z-of_z fits_p, to_z-of_z fits_s) (again t (λ z. not-0 (is_zero.1 z)) (λ z. not-1 (is_one.1 z)))
-
--- what `/` and `%` ask of the bits
-bits_above : (r : ℕ) → pos 0 <ℤ to_z w64 r → 0 < r
-bits_above zero h = absurd h.lt
-bits_above (suc r) h = zero-lt-suc r
 
 -- the arguments, as the locals hold them
 module _ (c : At-turns) where
   above : pos 0 <ℤ held c.args.b
-  above = rw (to_z-of_z c.ranges.b) c.requires.pos_bound_2
+  above = rw (to_z-of_z c.ranges.b) c.requires.second_above
 
   most : held c.args.b ≤ℤ pos 2000000000
-  most = rw (to_z-of_z c.ranges.b) c.requires.b_bound
-
-  counted : c.turns.made + 1 ≤ 2000000000
-  counted = few c.turns.invariant above most
+  most = rw (to_z-of_z c.ranges.b) c.requires.second_small
 
 pub turns-init : goal.turns-init
-turns-init c = rw (to_z-of_z c.ranges.a, to_z-of_z c.ranges.b) (first c.args.a c.args.b c.requires.pos_bound c.requires.within c.requires.pos_bound_2 c.requires.b_bound)
-
-pub nonzero_div-q : goal.nonzero_div-q
-nonzero_div-q c = (bits_above c.turns.r1-bits c.turns.invariant.some, fits_q c.turns.invariant (most c))
+turns-init c = rw (to_z-of_z c.ranges.a, to_z-of_z c.ranges.b) (first c.args.a c.args.b c.requires.not_negative c.requires.first c.requires.second_above c.requires.second_small)
 
 pub overflow_mul-s2 : goal.overflow_mul-s2
 overflow_mul-s2 c = product c.turns.invariant (most c)
@@ -80,31 +65,16 @@ overflow_mul-s2 c = product c.turns.invariant (most c)
 pub overflow_sub-s2 : goal.overflow_sub-s2
 overflow_sub-s2 c = difference c.turns.invariant (most c)
 
-pub overflow_add-made : goal.overflow_add-made
-overflow_add-made c = omega (arith, counted (goal.at.overflow_add-made c).At-turns)
-
 pub returns-then-r2-eq1 : goal.returns-then-r2-eq1
 returns-then-r2-eq1 c = let k = (goal.at.returns-then-r2-eq1 c).At-turns in
     let t = c.turns.invariant in
     let end = at_one t (above k) ((is_one t (most k)).0 c.if-r2-eq1.true) in
-    rw (c.new.ensures, to_z-of_z (fits_r t (most k)), to_z-of_z (fits_q t (most k)), to_z-of_z (fits_p t (most k)), to_z-of_z (fits_s t (most k))) (let both = (rw (to_z-of_z c.ranges.a, to_z-of_z c.ranges.b) at end) in record { factor = both.0; divisions_value = both.1 })
-
-pub overflow_add-made-then-r2-eq0 : goal.overflow_add-made-then-r2-eq0
-overflow_add-made-then-r2-eq0 c = omega (arith, counted (goal.at.overflow_add-made-then-r2-eq0 c).At-turns)
+    rw (c.new.ensures, to_z-of_z (fits_r t (most k)), to_z-of_z (fits_q t (most k)), to_z-of_z (fits_p t (most k)), to_z-of_z (fits_s t (most k))) (let both = (rw (to_z-of_z c.ranges.a, to_z-of_z c.ranges.b) at end) in record { factor = both.0; divisions = both.1 })
 
 pub returns-then-r2-eq0 : goal.returns-then-r2-eq0
 returns-then-r2-eq0 c = let k = (goal.at.returns-then-r2-eq0 c).At-turns in
     let end = at_zero c.turns.invariant (above k) ((is_zero c.turns.invariant (most k)).0 c.if-r2-eq0.true) in
-    rw c.new-then-r2-eq0.ensures (let both = (rw (to_z-of_z c.ranges.a, to_z-of_z c.ranges.b) at end) in record { factor = both.0; divisions_value = both.1 })
-
-pub overflow_add-made-in-turns : goal.overflow_add-made-in-turns
-overflow_add-made-in-turns c = omega (arith, counted (goal.at.overflow_add-made-in-turns c).At-turns)
-
-pub turns-smaller : goal.turns-smaller
-turns-smaller c = falls c.turns.invariant (most (goal.at.turns-smaller c).At-turns)
+    rw c.new-then-r2-eq0.ensures (let both = (rw (to_z-of_z c.ranges.a, to_z-of_z c.ranges.b) at end) in record { factor = both.0; divisions = both.1 })
 
 pub turns-preserved : goal.turns-preserved
 turns-preserved c = goes_on c.turns.invariant (most (goal.at.turns-preserved c).At-turns) c.if-r2-eq0.false c.if-r2-eq1.false
-
-pub nonzero_rem-r2 : goal.nonzero_rem-r2
-nonzero_rem-r2 c = nonzero_div-q c
