@@ -4,3 +4,5 @@
 pub mod Numbers
 -- what a working answers
 pub mod Answer
+-- both at worked values
+pub mod Values

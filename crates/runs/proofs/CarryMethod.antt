@@ -15,8 +15,7 @@ use Rattle.ints.proofs.{ℤ, pos, negsuc, neg_ℤ, nat_abs, ◌+ℤ◌, ◌-ℤ�
 use Rattle.ints.proofs.Order.{nat_nonneg}
 use Rattle.ints.proofs.Products.{mul-le_iff}
 use Rattle.ints.proofs.Floor.{floor_iff, floor_range, floor-Within}
-use Rattle.runs.specs.declared.congruence.Solutions.{Solutions}
-use Rattle.runs.specs.declared.congruence.Solutions.TheVariants.{Nothing, Every}
+use Rattle.std.specs.Prelude.{Option, Some, None}
 use Rattle.runs.specs.Run.{Run, InRun, OneForm, empty, bound}
 use Rattle.runs.specs.Search.{Partner}
 use Rattle.runs.specs.Workings.{Equation, CarryLimits}
@@ -246,16 +245,16 @@ module _ {e : Equation} {q : Run} (k : Carriable e q) where
       some : IsCarry e.a e.b e.c q (counted_run up n)
       some = record { form = counted_run_form carry_Countable; all = λ p. Iff.trans (counted_run_iff carry_Countable p) (λ (w, m). (w, (risen.all p).1 m), λ (w, y). (w, (risen.all p).0 y)) }
 
-    every : IsCarry e.a e.b e.c q (carry_by (Every j) e q)
+    every : IsCarry e.a e.b e.c q (carry_by (Some j) e q)
     every = go (lt_z (last_place q) j.first) refl
       where
         go : (t : Bool) → lt_z (last_place q) j.first ≡ t → IsCarry e.a e.b e.c q (cond t empty (counted_run (rising e (partners e q j) (more_in q j)) (more_in q j)))
         go true t = record { form = empty_form; all = λ p. (λ m. not_in_empty m, λ m. absurd (past (lin (pos q.many ∷ j.first ∷ []) t (search facts depth 20) (omega arith)) m.1)) }
         go false t = some (lin (pos q.many ∷ j.first ∷ []) t (search facts depth 20) (omega arith))
 
-  pub carried : (sol : Solutions) → Solves (places_with_partner e q) sol → IsCarry e.a e.b e.c q (carry_by sol e q)
-  carried Nothing n = none n
-  carried (Every j) E = every E
+  pub carried : (sol : Option Class) → Solves (places_with_partner e q) sol → IsCarry e.a e.b e.c q (carry_by sol e q)
+  carried None n = none n
+  carried (Some j) E = every E
 
   -- and the places are within reach of the congruence
   pub places_reach : InReach (places_with_partner e q)

@@ -12,7 +12,7 @@ use Rattle.runs.specs.Run.{InRun, OneForm, full, bound}
 use Rattle.runs.specs.Method.{Class, Interval, InInterval, common, span, Clippable, Countable, counted, counted_run, progression}
 use Rattle.runs.proofs.Members.{by_members}
 use Rattle.runs.proofs.Progressions.{Along, Along-iff}
-use Rattle.runs.proofs.Intervals.{either, greater_over, smaller_under, in_common, in_whole}
+use Rattle.runs.proofs.Intervals.{either, max_over, min_under, in_common, in_whole}
 use Rattle.runs.proofs.ClassInInterval.{is_clip, in_progression, progression_form}
 
 module _ {c : Class} {n : ℤ} (k : Countable c n) where
@@ -23,11 +23,11 @@ module _ {c : Class} {n : ℤ} (k : Countable c n) where
   countable_fair = record {
     moves = k.moves;
     step = k.step;
-    distance = either (λ x. Within limit (c.first -ℤ x)) (lt_z c.first (negsuc 999999999))
-        (lin (c.first ∷ []) k.first (search facts depth 20) (omega arith)) (lin₀ (c.first ∷ []) (search facts depth 20) (omega arith));
-    start = either (Within limit) (lt_z c.first (negsuc 999999999)) (lin₀ [] (search facts depth 20) (omega arith)) (lin (c.first ∷ []) k.first (search facts depth 20) (omega arith));
-    low = (greater_over c.first (negsuc 999999999)).1;
-    high = (smaller_under (c.first +ℤ c.step *ℤ n) (pos 1000000000)).1;
+    distance = either (λ x. Within limit (c.first -ℤ x)) (lt_z (negsuc 999999999) c.first)
+        (lin₀ (c.first ∷ []) (search facts depth 20) (omega arith)) (lin (c.first ∷ []) k.first (search facts depth 20) (omega arith));
+    start = either (Within limit) (lt_z (negsuc 999999999) c.first) (lin (c.first ∷ []) k.first (search facts depth 20) (omega arith)) (lin₀ [] (search facts depth 20) (omega arith));
+    low = (max_over c.first (negsuc 999999999)).1;
+    high = (min_under (c.first +ℤ c.step *ℤ n) (pos 1000000000)).1;
   }
 
   pub counted_run_form : OneForm (counted_run c n)

@@ -3,27 +3,28 @@ use mathlib.Core.Path.{◌≡◌, refl}
 use mathlib.Core.Logic.{◌↔◌}
 use mathlib.Core.Bool.{Bool, true, false, cond}
 use mathlib.Core.List.{[], ◌∷◌}
+use Rattle.std.specs.Int.{int_max, int_min}
 use Rattle.ints.specs.Within.{Within}
 use Rattle.ints.proofs.{ℤ, lt_z, ◌≤ℤ◌, arith, lin, ◌&◌, facts}
 use Rattle.runs.specs.Run.{full, bound}
-use Rattle.runs.specs.Method.{Interval, InInterval, greater, smaller, common, span}
+use Rattle.runs.specs.Method.{Interval, InInterval, common, span}
 
 -- what holds of both holds of either
 pub either : {A : Type 0} (P : A → Type 0) (t : Bool) {x y : A} → P x → P y → P (cond t x y)
 either P true p q = p
 either P false p q = q
 
-pub greater_over : (a b : ℤ) → (a ≤ℤ greater a b) × (b ≤ℤ greater a b)
-greater_over a b = go (lt_z a b) refl
+pub max_over : (a b : ℤ) → (a ≤ℤ int_max a b) × (b ≤ℤ int_max a b)
+max_over a b = go (lt_z b a) refl
   where
-    go : (t : Bool) → lt_z a b ≡ t → (a ≤ℤ cond t b a) × (b ≤ℤ cond t b a)
+    go : (t : Bool) → lt_z b a ≡ t → (a ≤ℤ cond t a b) × (b ≤ℤ cond t a b)
     go true t = lin (a ∷ b ∷ []) t (search facts depth 20) (omega arith)
     go false t = lin (a ∷ b ∷ []) t (search facts depth 20) (omega arith)
 
-pub smaller_under : (a b : ℤ) → (smaller a b ≤ℤ a) × (smaller a b ≤ℤ b)
-smaller_under a b = go (lt_z a b) refl
+pub min_under : (a b : ℤ) → (int_min a b ≤ℤ a) × (int_min a b ≤ℤ b)
+min_under a b = go (lt_z b a) refl
   where
-    go : (t : Bool) → lt_z a b ≡ t → (cond t a b ≤ℤ a) × (cond t a b ≤ℤ b)
+    go : (t : Bool) → lt_z b a ≡ t → (cond t b a ≤ℤ a) × (cond t b a ≤ℤ b)
     go true t = lin (a ∷ b ∷ []) t (search facts depth 20) (omega arith)
     go false t = lin (a ∷ b ∷ []) t (search facts depth 20) (omega arith)
 
@@ -31,17 +32,17 @@ pub in_common : (i j : Interval) (x : ℤ) → InInterval (common i j) x ↔ (In
 in_common i j x = (to, from)
   where
     -- at most x, and at least x, both
-    under : (a b : ℤ) → (greater a b ≤ℤ x) ↔ ((a ≤ℤ x) × (b ≤ℤ x))
-    under a b = go (lt_z a b) refl
+    under : (a b : ℤ) → (int_max a b ≤ℤ x) ↔ ((a ≤ℤ x) × (b ≤ℤ x))
+    under a b = go (lt_z b a) refl
       where
-        go : (t : Bool) → lt_z a b ≡ t → (cond t b a ≤ℤ x) ↔ ((a ≤ℤ x) × (b ≤ℤ x))
+        go : (t : Bool) → lt_z b a ≡ t → (cond t a b ≤ℤ x) ↔ ((a ≤ℤ x) × (b ≤ℤ x))
         go true t = lin (a ∷ b ∷ x ∷ []) t (search facts depth 20) (omega arith)
         go false t = lin (a ∷ b ∷ x ∷ []) t (search facts depth 20) (omega arith)
 
-    over : (a b : ℤ) → (x ≤ℤ smaller a b) ↔ ((x ≤ℤ a) × (x ≤ℤ b))
-    over a b = go (lt_z a b) refl
+    over : (a b : ℤ) → (x ≤ℤ int_min a b) ↔ ((x ≤ℤ a) × (x ≤ℤ b))
+    over a b = go (lt_z b a) refl
       where
-        go : (t : Bool) → lt_z a b ≡ t → (x ≤ℤ cond t a b) ↔ ((x ≤ℤ a) × (x ≤ℤ b))
+        go : (t : Bool) → lt_z b a ≡ t → (x ≤ℤ cond t b a) ↔ ((x ≤ℤ a) × (x ≤ℤ b))
         go true t = lin (a ∷ b ∷ x ∷ []) t (search facts depth 20) (omega arith)
         go false t = lin (a ∷ b ∷ x ∷ []) t (search facts depth 20) (omega arith)
 

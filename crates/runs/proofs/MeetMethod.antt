@@ -13,14 +13,14 @@ use Rattle.ints.proofs.Equal.{equal_true}
 use Rattle.lists.specs.Members.{◌∈◌}
 use Rattle.lists.specs.Keep.{keep}
 use Rattle.lists.proofs.Keep.{in-keep, Rising-keep, any_iff}
-use Rattle.runs.specs.declared.congruence.Solutions.{Solutions}
-use Rattle.runs.specs.declared.congruence.Solutions.TheVariants.{Nothing, Every}
+use Rattle.std.specs.Prelude.{Option, Some, None}
+use Rattle.std.specs.Int.{int_max, int_min}
 use Rattle.runs.specs.Run.{Run, numbers, InRun, OneForm, empty, bound}
 use Rattle.runs.specs.Search.{is_in, meet}
-use Rattle.runs.specs.Method.{Class, InInterval, Clippable, Places, Congruence, InReach, AllSolutions, Solves, stride, span, clip, greater, smaller, common, places_in, numbers_at, meet_by}
+use Rattle.runs.specs.Method.{Class, InInterval, Clippable, Places, Congruence, InReach, AllSolutions, Solves, stride, span, clip, common, places_in, numbers_at, meet_by}
 use Rattle.runs.proofs.Members.{in-numbers, Rising-numbers, is_run_of, empty_form, not_in_empty, no_place}
 use Rattle.runs.proofs.ClassOfRun.{in_span, stride_above, first-Within, last_Within, stride_within}
-use Rattle.runs.proofs.Intervals.{in_common, either, greater_over}
+use Rattle.runs.proofs.Intervals.{in_common, either, max_over}
 use Rattle.runs.proofs.ClassInInterval.{IsClip, is_clip}
 use Rattle.runs.proofs.SolutionPeriod.{period_above, period_within}
 
@@ -108,7 +108,7 @@ module _ {a b : Run} (o : OneForm a) (o' : OneForm b) (h : 1 ≤ a.many) (h' : 1
     meet_fair = record {
       moves = lin ρ (prod one p_one & one & p_one) (search facts depth 20) (omega arith);
       step = lin ρ (product & prod one p_one & one & p_one) (search facts depth 20) (omega arith);
-      distance = lin ρ (product & place & prod (nat_low one) e.low & first-Within o h & low-Within & (greater_over a.first b.first).0 & one) (search facts depth 20) (omega arith);
+      distance = lin ρ (product & place & prod (nat_low one) e.low & first-Within o h & low-Within & (max_over a.first b.first).0 & one) (search facts depth 20) (omega arith);
       start = lin ρ low-Within (search facts depth 20) (omega arith);
       low = lin ρ low-Within (search facts depth 20) (omega arith);
       high = lin ρ high-Within (search facts depth 20) (omega arith);
@@ -118,10 +118,10 @@ module _ {a b : Run} (o : OneForm a) (o' : OneForm b) (h : 1 ≤ a.many) (h' : 1
         s = stride a
 
         low : ℤ
-        low = greater a.first b.first
+        low = int_max a.first b.first
 
         high : ℤ
-        high = smaller (span a).high (span b).high
+        high = int_min (span a).high (span b).high
 
         ρ : List ℤ
         ρ = s ∷ i.first ∷ i.step ∷ a.first ∷ low ∷ high ∷ []
@@ -144,12 +144,12 @@ module _ {a b : Run} (o : OneForm a) (o' : OneForm b) (h : 1 ≤ a.many) (h' : 1
             lin ρ (prod (nat_low one) under) (search facts depth 20) (omega arith)
 
         low-Within : Within bound low
-        low-Within = either (Within bound) (lt_z a.first b.first) (first-Within o' h') (first-Within o h)
+        low-Within = either (Within bound) (lt_z b.first a.first) (first-Within o h) (first-Within o' h')
 
         high-Within : Within bound high
-        high-Within = either (Within bound) (lt_z (span a).high (span b).high) (last_Within o h) (last_Within o' h')
+        high-Within = either (Within bound) (lt_z (span b).high (span a).high) (last_Within o' h') (last_Within o h)
 
-    some : IsMeet a b (meet_by (Every i) a b)
+    some : IsMeet a b (meet_by (Some i) a b)
     some = record { form = k.form; all = λ x. Iff.trans (k.all x) (to x, from x) }
       where
         k : IsClip (numbers_at a i) (common (span a) (span b)) (clip (numbers_at a i) (common (span a) (span b)))
@@ -167,9 +167,9 @@ module _ {a b : Run} (o : OneForm a) (o' : OneForm b) (h : 1 ≤ a.many) (h' : 1
             let (cb, mb) = (in_span o' h' x).0 kb in
             ((both_classes a.first (stride a) b.first (stride b) i e x).0 (ca, cb), (in_common (span a) (span b) x).1 (ma, mb))
 
-  pub met : (sol : Solutions) → Solves (places_in a b) sol → IsMeet a b (meet_by sol a b)
-  met Nothing n = none n
-  met (Every i) e = some i e
+  pub met : (sol : Option Class) → Solves (places_in a b) sol → IsMeet a b (meet_by sol a b)
+  met None n = none n
+  met (Some i) e = some i e
 
   -- and the places are within reach of the congruence
   pub places_in_reach : InReach (places_in a b)

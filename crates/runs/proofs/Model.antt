@@ -12,7 +12,7 @@ use Rattle.ints.proofs.{ℤ, pos, negsuc, neg_ℤ, nat_abs, ◌-ℤ◌, ◌*ℤ�
 use Rattle.ints.proofs.Order.{nat_nonneg, abs_nonneg}
 use Rattle.euclid.specs.Factor.{IsFactor}
 use Rattle.euclid.proofs.Euclid.{Inv, start, step, done, turned}
-use Rattle.runs.specs.declared.congruence.Solutions.TheVariants.{Nothing, Every}
+use Rattle.std.specs.Prelude.{Some, None}
 use Rattle.runs.specs.Run.{Run, OneForm, empty}
 use Rattle.runs.specs.Search.{meet, carry}
 use Rattle.runs.specs.Workings.{Equation, CarryLimits}
@@ -60,7 +60,7 @@ solved_is s h = go (lt_z (pos 0) (floor_mod s.v f.gcd)) refl
     is : IsFactor s.u s.d f.gcd f.cofactor
     is = subst (λ d. IsFactor s.u d f.gcd f.cofactor) (sym size) (factors_are s.u (nat_abs s.d) h.factor (subst (λ d. pos 0 <ℤ d) size h.above) (subst (λ d. d ≤ℤ pos 2000000000) size h.modulus))
 
-    go : (t : Bool) → lt_z (pos 0) (floor_mod s.v f.gcd) ≡ t → Solves s (cond t Nothing (Every record { first = floor_mod (floor_mod f.cofactor (floor_div s.d f.gcd) *ℤ floor_mod (floor_div s.v f.gcd) (floor_div s.d f.gcd)) (floor_div s.d f.gcd); step = floor_div s.d f.gcd }))
+    go : (t : Bool) → lt_z (pos 0) (floor_mod s.v f.gcd) ≡ t → Solves s (cond t None (Some record { first = floor_mod (floor_mod f.cofactor (floor_div s.d f.gcd) *ℤ floor_mod (floor_div s.v f.gcd) (floor_div s.d f.gcd)) (floor_div s.d f.gcd); step = floor_div s.d f.gcd }))
     go true t = nothing is h.above s.v (lin (floor_mod s.v f.gcd ∷ []) t (search facts depth 20) (omega arith))
     go false t = every is h.above s.v (no_rest is h.above s.v (lin (floor_mod s.v f.gcd ∷ []) t (search facts depth 20) (omega arith)))
 

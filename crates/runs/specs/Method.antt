@@ -2,6 +2,7 @@
 -- to Search.antt; it says how they get there: a run is the part of a residue class from a lowest to a highest number, so
 -- two runs meet, and a run is carried, where a congruence is solved and an interval is clipped.
 use Rattle.std.specs.Prelude.{◌↔◌, Bool, cond, ℕ, zero, suc, ◌≤◌, ℤ, pos, neg_ℤ, nat_abs, ◌+ℤ◌, ◌-ℤ◌, ◌*ℤ◌, ◌≤ℤ◌, ◌<ℤ◌}
+use Rattle.std.specs.Int.{int_max, int_min}
 use Rattle.std.specs.Int.Signed.{lt_z}
 use Rattle.ints.specs.Within.{Within}
 use Rattle.ints.specs.Floor.{floor_div, floor_mod}
@@ -12,8 +13,7 @@ use Rattle.runs.specs.Workings.{Equation, CarryLimits}
 pub use Rattle.runs.specs.declared.class.Class.{Class}
 pub use Rattle.runs.specs.declared.class.Interval.{Interval}
 pub use Rattle.runs.specs.declared.congruence.Congruence.{Congruence}
-use Rattle.runs.specs.declared.congruence.Solutions.{Solutions}
-use Rattle.runs.specs.declared.congruence.Solutions.TheVariants.{Nothing, Every}
+use Rattle.std.specs.Prelude.{Option, Some, None}
 
 -- ---- u·i ≡ v (mod d)
 pub record InReach (s : Congruence) : Type 0 where
@@ -28,23 +28,17 @@ pub record AllSolutions (s : Congruence) (c : Class) : Type 0 where
   pub high : c.first <ℤ c.step
   pub all : (i : ℤ) → Congruent s.d (s.u *ℤ i) s.v ↔ Congruent c.step i c.first
 
-abbrev pub Solves : Congruence → Solutions → Type 0
-Solves s Nothing = (i : ℤ) → Congruent s.d (s.u *ℤ i) s.v → ⊥
-Solves s (Every c) = AllSolutions s c
+abbrev pub Solves : Congruence → Option Class → Type 0
+Solves s None = (i : ℤ) → Congruent s.d (s.u *ℤ i) s.v → ⊥
+Solves s (Some c) = AllSolutions s c
 
 -- ---- intervals
 pub record InInterval (i : Interval) (x : ℤ) : Type 0 where
   pub low : i.low ≤ℤ x
   pub high : x ≤ℤ i.high
 
-abbrev pub greater : ℤ → ℤ → ℤ
-greater x y = cond (lt_z x y) y x
-
-abbrev pub smaller : ℤ → ℤ → ℤ
-smaller x y = cond (lt_z x y) x y
-
 abbrev pub common : Interval → Interval → Interval
-common i j = record { low = greater i.low j.low; high = smaller i.high j.high }
+common i j = record { low = int_max i.low j.low; high = int_min i.high j.high }
 
 -- ---- a run of one number or more: a class from a lowest to a highest number
 -- the step, and 1 where there is a single number: for that any modulus will do, and it needs no case of its own
@@ -117,9 +111,9 @@ pub record Places (i : Class) : Type 0 where
 abbrev pub numbers_at : Run → Class → Class
 numbers_at r i = record { first = r.first +ℤ stride r *ℤ i.first; step = stride r *ℤ i.step }
 
-abbrev pub meet_by : Solutions → Run → Run → Run
-meet_by Nothing a b = empty
-meet_by (Every i) a b = clip (numbers_at a i) (common (span a) (span b))
+abbrev pub meet_by : Option Class → Run → Run → Run
+meet_by None a b = empty
+meet_by (Some i) a b = clip (numbers_at a i) (common (span a) (span b))
 
 -- ---- carrying, for an equation with a above 0 and a run of one number or more
 pub record Carriable (e : Equation) (q : Run) : Type 0 where
@@ -160,9 +154,9 @@ falls e = lt_z (pos 0) e.b
 abbrev pub rising : Equation → Class → ℤ → Class
 rising e p n = cond (falls e) (record { first = p.first -ℤ p.step *ℤ n; step = p.step }) p
 
-abbrev pub carry_by : Solutions → Equation → Run → Run
-carry_by Nothing e q = empty
-carry_by (Every j) e q =
+abbrev pub carry_by : Option Class → Equation → Run → Run
+carry_by None e q = empty
+carry_by (Some j) e q =
     cond (lt_z (last_place q) j.first) empty
     (counted_run (rising e (partners e q j) (more_in q j)) (more_in q j))
 

@@ -4,11 +4,10 @@
 use Rattle.std.specs.Prelude.{cond, ℕ, zero, suc, ◌/◌, ◌%◌, eqb, ℤ, pos, negsuc, nat_abs, ◌-ℤ◌, ◌*ℤ◌}
 use Rattle.std.specs.Int.Signed.{lt_z}
 use Rattle.ints.specs.Floor.{floor_div, floor_mod}
-use Rattle.runs.specs.declared.congruence.Solutions.{Solutions}
-use Rattle.runs.specs.declared.congruence.Solutions.TheVariants.{Nothing, Every}
+use Rattle.std.specs.Prelude.{Option, Some, None}
 use Rattle.runs.specs.Run.{Run, empty}
 use Rattle.runs.specs.Workings.{Equation}
-use Rattle.runs.specs.Method.{Congruence, places_in, meet_by, places_with_partner, carry_by, upright}
+use Rattle.runs.specs.Method.{Class, Congruence, places_in, meet_by, places_with_partner, carry_by, upright}
 
 -- ---- the greatest common divisor with a cofactor: the extended Euclidean algorithm, down to 0
 pub record Factors : Type 0 where
@@ -28,13 +27,13 @@ factors (pos a) b = extended b a b (pos 1) (pos 0)
 factors (negsuc a) b = let f = extended b (suc a) b (pos 1) (pos 0) in record { gcd = f.gcd; cofactor = pos 0 -ℤ f.cofactor }
 
 -- ---- u·i ≡ v (mod d)
-unfoldable pub solved : Congruence → Solutions
+unfoldable pub solved : Congruence → Option Class
 unfolding factors
 solved s =
     let f = factors s.u (nat_abs s.d) in
     let period = floor_div s.d f.gcd in
-    cond (lt_z (pos 0) (floor_mod s.v f.gcd)) Nothing
-    (Every record { first = floor_mod (floor_mod f.cofactor period *ℤ floor_mod (floor_div s.v f.gcd) period) period; step = period })
+    cond (lt_z (pos 0) (floor_mod s.v f.gcd)) None
+    (Some record { first = floor_mod (floor_mod f.cofactor period *ℤ floor_mod (floor_div s.v f.gcd) period) period; step = period })
 
 -- ---- the workings
 unfoldable pub meet_model : Run → Run → Run

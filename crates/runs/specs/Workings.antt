@@ -1,19 +1,11 @@
 -- Document 01, "Workings": what meeting and carrying answer for all arguments.
 use Rattle.std.specs.Prelude.{Bool, ◌&&◌, ◌≢◌, pos}
-use Rattle.reasons.specs.Numbers.{number_of, row_of}
-use Rattle.reasons.specs.Answer.{WorkingAnswer, gives, refused, answer_if}
+use Rattle.reasons.specs.Answer.{WorkingAnswer, answer_if}
 use Rattle.ints.specs.Within.{Within, is_within}
 use Rattle.euclid.specs.Coefficient.{is_coefficient}
 use Rattle.runs.specs.Run.{Run, is_one_form}
 use Rattle.runs.specs.Search.{meet, carry}
 pub use Rattle.runs.specs.declared.Equation.{Equation}
-use Rattle.runs.specs.declared.Working.{Working}
-use Rattle.runs.specs.declared.Working.TheVariants.{Gives, Refused}
-
--- what each case of the program's enum says
-abbrev pub working_answer_of : Working → WorkingAnswer Run
-working_answer_of (Gives r) = gives r
-working_answer_of (Refused r) = refused (number_of r) (row_of r)
 
 -- "a and b are 1 to 1,000,000 in size with either sign, c lies within ±2,000,000,000,000,000"
 pub record CarryLimits (e : Equation) : Type 0 where

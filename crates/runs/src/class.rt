@@ -1,7 +1,7 @@
 //! Residue classes and intervals: the members of a class from a low to a high number are a run.
 
 ghost use Rattle.std.specs.Prelude.{◌≡◌, ◌≤◌};
-ghost use Rattle.runs.specs.Method.{greater, smaller, common, Countable, counted_run, Clippable, clip, progression};
+ghost use Rattle.runs.specs.Method.{common, Countable, counted_run, Clippable, clip, progression};
 
 use crate::Run;
 
@@ -25,22 +25,10 @@ impl Interval {
         ensures { result ≡ common self other }
     {
         Interval {
-            low: greater(self.low, other.low),
-            high: smaller(self.high, other.high),
+            low: self.low.max(other.low),
+            high: self.high.min(other.high),
         }
     }
-}
-
-fn greater(x: i64, y: i64) -> i64
-    ensures { result ≡ greater x y }
-{
-    if x < y { y } else { x }
-}
-
-fn smaller(x: i64, y: i64) -> i64
-    ensures { result ≡ smaller x y }
-{
-    if x < y { x } else { y }
 }
 
 impl Class {
@@ -50,10 +38,8 @@ impl Class {
         ensures { result ≡ counted_run self more }
     {
         let last = self.first + self.step * more;
-        if -1000000000 <= self.first {
-            if last <= 1000000000 {
-                return progression(self.first, self.step, more as u32);
-            }
+        if -1000000000 <= self.first && last <= 1000000000 {
+            return progression(self.first, self.step, more as u32);
         }
         let counted = Interval {
             low: self.first,
@@ -83,14 +69,14 @@ fn progression(first: i64, step: i64, more: u32) -> Run
 {
     if more == 0 {
         Run {
-            first: first,
+            first,
             step: 0,
             many: 1,
         }
     } else {
         Run {
-            first: first,
-            step: step,
+            first,
+            step,
             many: more + 1,
         }
     }

@@ -16,21 +16,15 @@ pub struct Congruence {
     pub d: i64,
 }
 
-/// Its solutions: none, or the numbers of one class, starting at the least non-negative one, in steps of the period.
-#[derive(Clone, Copy)]
-pub enum Solutions {
-    Nothing,
-    Every(Class),
-}
-
 impl Congruence {
-    // A run that a variable begins with has stride 1, and so have most that are met.
-    pub(crate) fn solve(self) -> Solutions
+    // Its solutions: none, or the numbers of one class, whose first is the least that is not negative. A run that a variable begins
+    // with has stride 1, and so have most that are met.
+    pub(crate) fn solve(self) -> Option<Class>
         requires { InReach self }
         ensures { Solves self result }
     {
         if self.u == 1 {
-            Solutions::Every(self.class_of_value())
+            Some(self.class_of_value())
         } else {
             self.by_factor()
         }
@@ -39,7 +33,7 @@ impl Congruence {
     // With u = 1 the solutions are the numbers that are v modulo d.
     fn class_of_value(self) -> Class
         requires in_reach { InReach self }
-        requires u_value { self.u ≡ pos 1 }
+        requires factor_is_1 { self.u ≡ pos 1 }
         ensures { AllSolutions self result }
     {
         Class {
@@ -48,15 +42,15 @@ impl Congruence {
         }
     }
 
-    fn by_factor(self) -> Solutions
+    fn by_factor(self) -> Option<Class>
         requires { InReach self }
         ensures { Solves self result }
     {
         let f = Factor::of(self.u, self.d);
         if 0 < ints::remainder(self.v, f.gcd) {
-            Solutions::Nothing
+            None
         } else {
-            Solutions::Every(self.class_by(f))
+            Some(self.class_by(f))
         }
     }
 
@@ -73,7 +67,7 @@ impl Congruence {
         let y = ints::remainder(ints::quotient(self.v, f.gcd), step);
         Class {
             first: ints::remainder(x * y, step),
-            step: step,
+            step,
         }
     }
 }

@@ -1,12 +1,11 @@
 //! The methods of `Equation`: its limits, and the parts of carrying, most of them for an a above 0.
 
-ghost use Rattle.std.specs.Prelude.{◌≡◌, ◌≤◌, ◌-ℤ◌, ◌*ℤ◌, ◌≤ℤ◌};
+ghost use Rattle.std.specs.Prelude.{◌≡◌, Some, ◌≤◌, ◌-ℤ◌, ◌*ℤ◌, ◌≤ℤ◌};
 ghost use Rattle.ints.specs.Within.{Within};
 ghost use Rattle.ints.specs.Division.{limit};
 ghost use Rattle.runs.specs.Run.{OneForm, bound};
 ghost use Rattle.runs.specs.Workings.{CarryLimits, carry_limits};
 ghost use Rattle.runs.specs.Method.{upright, Carriable, partner_value, places_with_partner, AllSolutions, last_place, partners, rising, step_of, carry_by};
-ghost use Rattle.runs.specs.declared.congruence.Solutions.TheVariants.{Every};
 
 use crate::class::Class;
 use crate::congruence::Congruence;
@@ -17,12 +16,9 @@ impl Equation {
     pub fn in_limits(self) -> bool
         ensures { result ≡ carry_limits self }
     {
-        if euclid::is_coefficient(self.a) {
-            if euclid::is_coefficient(self.b) {
-                return ints::is_within(2000000000000000, self.c);
-            }
-        }
-        false
+        euclid::is_coefficient(self.a)
+            && euclid::is_coefficient(self.b)
+            && ints::is_within(2000000000000000, self.c)
     }
 
     // The same equation with a above 0.
@@ -45,7 +41,7 @@ impl Equation {
     pub(crate) fn places(self, q: Run) -> Congruence
         requires carry_limits { CarryLimits self }
         requires one_form { OneForm q }
-        requires le_many { 1 ≤ q.many }
+        requires not_empty { 1 ≤ q.many }
         ensures { result ≡ places_with_partner self q }
     {
         Congruence {
@@ -60,7 +56,7 @@ impl Equation {
     pub(crate) fn carried(self, q: Run, j: Class) -> Run
         requires carriable { Carriable self q }
         requires all_solutions { AllSolutions (places_with_partner self q) j }
-        ensures { result ≡ carry_by (Every j) self q }
+        ensures { result ≡ carry_by (Some j) self q }
     {
         let last = q.many as i64 - 1;
         if last < j.first {
@@ -72,8 +68,8 @@ impl Equation {
 
     // The p from the lowest on: with a positive b they fall where q rises.
     fn rising(self, p: Class, more: i64) -> Class
-        requires within { Within limit (p.step *ℤ more) }
-        requires within_2 { Within limit (p.first -ℤ p.step *ℤ more) }
+        requires way { Within limit (p.step *ℤ more) }
+        requires lowest { Within limit (p.first -ℤ p.step *ℤ more) }
         ensures { result ≡ rising self p more }
     {
         if 0 < self.b {
@@ -90,7 +86,7 @@ impl Equation {
     fn partners(self, q: Run, j: Class) -> Class
         requires carriable { Carriable self q }
         requires all_solutions { AllSolutions (places_with_partner self q) j }
-        requires first_bound { j.first ≤ℤ last_place q }
+        requires first_inside { j.first ≤ℤ last_place q }
         ensures { result ≡ partners self q j }
     {
         Class {
@@ -105,10 +101,7 @@ impl Equation {
         requires all_solutions { AllSolutions (places_with_partner self q) j }
         ensures { result ≡ step_of self q j }
     {
-        ints::quotient(
-            ints::size(self.b) as i64 * q.stride(),
-            ints::quotient(self.a, j.step),
-        )
+        ints::quotient(self.b.abs() * q.stride(), ints::quotient(self.a, j.step))
     }
 
     fn partner_value(self, q: i64) -> i64

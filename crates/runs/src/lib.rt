@@ -4,9 +4,9 @@
 #![tactic(auto)]
 
 ghost use Rattle.std.specs.Prelude.{◌≡◌};
-ghost use Rattle.reasons.specs.Answer.{RefusedUnless};
+ghost use Rattle.reasons.specs.Answer.{working_answer_of, RefusedUnless};
 ghost use Rattle.runs.specs.Run.{OneForm};
-ghost use Rattle.runs.specs.Workings.{CarryLimits, working_answer_of, meeting, carrying};
+ghost use Rattle.runs.specs.Workings.{CarryLimits, meeting, carrying};
 
 use reasons::Reason;
 
@@ -21,7 +21,7 @@ mod congruence;
 
 /// An arithmetic progression, document 01's run: `many` numbers, from `first` on by `step`. Its one form: empty is 0, 0, 0;
 /// one number has step 0; otherwise the step is at least 1; and all its numbers lie within ±1,000,000,000.
-#[derive(Clone, Copy)]
+#[derive(Clone, Copy, PartialEq, Eq)]
 pub struct Run {
     pub first: i64,
     pub step: i64,
@@ -36,37 +36,28 @@ pub struct Equation {
     pub c: i64,
 }
 
-/// What a working on runs answers.
-#[derive(Clone, Copy)]
-pub enum Working {
-    Gives(Run),
-    Refused(Reason),
-}
-
 /// Two runs meet in the run of the numbers in both. Refused where one of them is not in its one form.
-pub fn meeting(a: Run, b: Run) -> Working
-    ensures result_value { working_answer_of result ≡ meeting a b }
+pub fn meeting(a: Run, b: Run) -> Result<Run, Reason>
+    ensures answer { working_answer_of result ≡ meeting a b }
     ensures refused_unless { RefusedUnless (OneForm a × OneForm b) (working_answer_of result) }
 {
-    if a.is_one_form() {
-        if b.is_one_form() {
-            return Working::Gives(a.meet(b));
-        }
+    if a.is_one_form() && b.is_one_form() {
+        Ok(a.meet(b))
+    } else {
+        Err(Reason::WrongArgument)
     }
-    Working::Refused(Reason::WrongArgument)
 }
 
 /// A run of q is carried to the run of all p within ±1,000,000,000 that have a partner q in it, with a·p + b·q = c.
 /// Refused where the run is not in its one form, where a or b is 0 or larger than 1,000,000 in size, or where c is larger
 /// than 2,000,000,000,000,000.
-pub fn carrying(e: Equation, q: Run) -> Working
-    ensures result_value { working_answer_of result ≡ carrying e q }
+pub fn carrying(e: Equation, q: Run) -> Result<Run, Reason>
+    ensures answer { working_answer_of result ≡ carrying e q }
     ensures refused_unless { RefusedUnless (CarryLimits e × OneForm q) (working_answer_of result) }
 {
-    if e.in_limits() {
-        if q.is_one_form() {
-            return Working::Gives(q.carry(e));
-        }
+    if e.in_limits() && q.is_one_form() {
+        Ok(q.carry(e))
+    } else {
+        Err(Reason::WrongArgument)
     }
-    Working::Refused(Reason::WrongArgument)
 }

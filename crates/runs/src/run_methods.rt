@@ -7,7 +7,7 @@ ghost use Rattle.runs.specs.Workings.{CarryLimits};
 ghost use Rattle.runs.specs.Method.{places_in, stride, span, numbers_at, Places};
 
 use crate::class::{Class, Interval};
-use crate::congruence::{Congruence, Solutions};
+use crate::congruence::Congruence;
 use crate::{Equation, Run};
 
 // ±1,000,000,000
@@ -40,16 +40,11 @@ impl Run {
     pub(crate) fn is_one_form(self) -> bool
         ensures { result ≡ is_one_form self }
     {
-        if 2 <= self.many {
-            return self.is_rising();
+        match self.many {
+            0 => self.first == 0 && self.step == 0,
+            1 => self.step == 0 && ints::is_within(BOUND, self.first),
+            _ => self.is_rising(),
         }
-        if self.step != 0 {
-            return false;
-        }
-        if self.many == 0 {
-            return self.first == 0;
-        }
-        ints::is_within(BOUND, self.first)
     }
 
     // Of two numbers or more: does it rise, from a first to a last number that lie in the range? A step past 2,000,000,000
@@ -58,34 +53,24 @@ impl Run {
         requires { 2 ≤ self.many }
         ensures { result ≡ is_one_form self }
     {
-        if self.step < 1 {
-            return false;
-        }
-        if 2000000000 < self.step {
-            return false;
-        }
-        if ints::is_within(BOUND, self.first) {
-            return ints::is_within(BOUND, self.first + self.step * (self.many as i64 - 1));
-        }
-        false
+        1 <= self.step
+            && self.step <= 2000000000
+            && ints::is_within(BOUND, self.first)
+            && ints::is_within(BOUND, self.first + self.step * (self.many as i64 - 1))
     }
 
     /// The numbers in both: the intersection. For runs that are known to be in their one form; `meeting` takes any.
     pub fn meet(self, other: Run) -> Run
         requires one_form { OneForm self }
-        requires one_form_2 { OneForm other }
+        requires other_one_form { OneForm other }
         ensures { result ≡ meet self other }
     {
-        if self.many == 0 {
+        if self.many == 0 || other.many == 0 {
             return Run::empty();
         }
-        if other.many == 0 {
-            return Run::empty();
-        }
-        let solutions = self.places_in(other).solve();
-        match solutions {
-            Solutions::Nothing => Run::empty(),
-            Solutions::Every(i) => self.numbers_at(i).clip(self.span().common(other.span())),
+        match self.places_in(other).solve() {
+            None => Run::empty(),
+            Some(i) => self.numbers_at(i).clip(self.span().common(other.span())),
         }
     }
 
@@ -100,19 +85,18 @@ impl Run {
             return Run::empty();
         }
         let up = e.upright();
-        let solutions = up.places(self).solve();
-        match solutions {
-            Solutions::Nothing => Run::empty(),
-            Solutions::Every(j) => up.carried(self, j),
+        match up.places(self).solve() {
+            None => Run::empty(),
+            Some(j) => up.carried(self, j),
         }
     }
 
     // The places at which this run's class has the numbers of the other's.
     fn places_in(self, other: Run) -> Congruence
         requires one_form { OneForm self }
-        requires le_many { 1 ≤ self.many }
-        requires one_form_2 { OneForm other }
-        requires le_many_2 { 1 ≤ other.many }
+        requires not_empty { 1 ≤ self.many }
+        requires other_one_form { OneForm other }
+        requires other_not_empty { 1 ≤ other.many }
         ensures { result ≡ places_in self other }
     {
         Congruence {
@@ -132,7 +116,7 @@ impl Run {
     // From the first to the last number.
     pub(crate) fn span(self) -> Interval
         requires one_form { OneForm self }
-        requires le_many { 1 ≤ self.many }
+        requires not_empty { 1 ≤ self.many }
         ensures { result ≡ span self }
     {
         Interval {
@@ -144,7 +128,7 @@ impl Run {
     // The class of the numbers at the places of a class.
     pub(crate) fn numbers_at(self, places: Class) -> Class
         requires one_form { OneForm self }
-        requires le_many { 1 ≤ self.many }
+        requires not_empty { 1 ≤ self.many }
         requires places { Places places }
         ensures { result ≡ numbers_at self places }
     {

@@ -10,7 +10,7 @@ use Rattle.ints.specs.Division.{DivisionLimits, limit}
 use Rattle.ints.proofs.{ℤ, pos, ◌-ℤ◌, ◌*ℤ◌, ◌≤ℤ◌, lt_z, [], ◌∷◌, arith, lin, ◌&◌, facts, signed}
 use Rattle.ints.proofs.Signed.{held, cast}
 use Rattle.ints.proofs.Answers.{asked, answered}
-use Rattle.runs.specs.declared.congruence.Solutions.TheVariants.{Every}
+use Rattle.std.specs.Prelude.{Some}
 use Rattle.runs.specs.Run.{Run, empty}
 use Rattle.runs.specs.Workings.{Equation}
 use Rattle.runs.specs.Method.{Class, Countable, Carriable, AllSolutions, places_with_partner, partners, last_place, more_in, rising, counted_run, carry_by}
@@ -43,7 +43,7 @@ module _ {e : Equation} {q : Run} {j : Class} (p : Carriable e q × AllSolutions
   test_is : {t : Bool} → lt_z last (held j.first) ≡ t → lt_z (last_place q) j.first ≡ t
   test_is test = ap₂ lt_z (sym last_is) (sym (to_z-of_z fits_place)) ∙ test
 
-  past : lt_z last (held j.first) ≡ true → (r : Run) → r ≡ empty → r ≡ carry_by (Every j) e q
+  past : lt_z last (held j.first) ≡ true → (r : Run) → r ≡ empty → r ≡ carry_by (Some j) e q
   past t r is = rw (test_is t) is
 
   -- the test was passed over
@@ -90,7 +90,7 @@ module _ {e : Equation} {q : Run} {j : Class} (p : Carriable e q × AllSolutions
           Countable-asked : Countable u (held n)
           Countable-asked = rw (there, held_n) (carry_Countable p.0 p.1 room)
 
-          result_is : (r : Run) → r ≡ counted_run u (held n) → r ≡ carry_by (Every j) e q
+          result_is : (r : Run) → r ≡ counted_run u (held n) → r ≡ carry_by (Some j) e q
           result_is r is = rw (test_is test) (is ∙ ap₂ counted_run there held_n)
 
 -- past the test
@@ -106,7 +106,7 @@ quotient-more-requires c = let t = (goal.at.quotient-more-requires c).Else-last-
 
 pub rising-requires : goal.rising-requires
 rising-requires c = let t = (goal.at.rising-requires c).Else-last-j.before in
-    let both = rising_asked ((s t).requires.carriable, (s t).requires.all_solutions) c.if-last-j.false c.quotient-more.result c.quotient-more.ensures c.partners.result c.partners.ensures in record { within = both.0; within_2 = both.1 }
+    let both = rising_asked ((s t).requires.carriable, (s t).requires.all_solutions) c.if-last-j.false c.quotient-more.result c.quotient-more.ensures c.partners.result c.partners.ensures in record { way = both.0; lowest = both.1 }
 
 pub counted_run-requires : goal.counted_run-requires
 counted_run-requires c = let t = (goal.at.counted_run-requires c).Else-last-j.before in

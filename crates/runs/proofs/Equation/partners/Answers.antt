@@ -29,10 +29,10 @@ module _ {e : Equation} {q : Run} {j : Class} (p : Carriable e q × (AllSolution
     limits_asked = divided_asked p.0.limits within v there
 
 pub numbers_at-requires : goal.numbers_at-requires
-numbers_at-requires c = let k = c.requires.carriable in let E = c.requires.all_solutions in let l = c.requires.first_bound in record { one_form = k.form; le_many = k.some; places = carry_places k E }
+numbers_at-requires c = let k = c.requires.carriable in let E = c.requires.all_solutions in let l = c.requires.first_inside in record { one_form = k.form; not_empty = k.some; places = carry_places k E }
 
 pub partner_value-requires : goal.partner_value-requires
-partner_value-requires c = record { carry_limits = c.requires.carriable.limits; within = start_asked (c.requires.carriable, (c.requires.all_solutions, c.requires.first_bound)) c.numbers_at.result c.numbers_at.ensures }
+partner_value-requires c = record { carry_limits = c.requires.carriable.limits; within = start_asked (c.requires.carriable, (c.requires.all_solutions, c.requires.first_inside)) c.numbers_at.result c.numbers_at.ensures }
 
 pub quotient-requires : goal.quotient-requires
-quotient-requires c = limits_asked (c.requires.carriable, (c.requires.all_solutions, c.requires.first_bound)) c.numbers_at.result c.numbers_at.ensures c.partner_value.result c.partner_value.ensures
+quotient-requires c = limits_asked (c.requires.carriable, (c.requires.all_solutions, c.requires.first_inside)) c.numbers_at.result c.numbers_at.ensures c.partner_value.result c.partner_value.ensures

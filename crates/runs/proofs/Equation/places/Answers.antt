@@ -38,10 +38,10 @@ module _ (e : Equation) (q : Run) (p : CarryLimits e × (OneForm q × (1 ≤ q.m
   v_is v fits d = to_z-of_z fits ∙ d ∙ ap (partner_value e) (to_z-of_z (fits_q p.0 first))
 
 pub overflow_mul-result : goal.overflow_mul-result
-overflow_mul-result c = u_asked c.args.self c.args.q (c.requires.carry_limits, (c.requires.one_form, c.requires.le_many)) c.stride.result c.stride.ensures
+overflow_mul-result c = u_asked c.args.self c.args.q (c.requires.carry_limits, (c.requires.one_form, c.requires.not_empty)) c.stride.result c.stride.ensures
 
 pub returns : goal.returns
 returns c = same_congruence
-    (u_is c.args.self c.args.q (c.requires.carry_limits, (c.requires.one_form, c.requires.le_many)) c.stride.result c.stride.ensures)
-    (v_is c.args.self c.args.q (c.requires.carry_limits, (c.requires.one_form, c.requires.le_many)) c.stride.result c.stride.ensures c.partner_value.result record { sfits = c.partner_value.type_inv } c.partner_value.ensures)
+    (u_is c.args.self c.args.q (c.requires.carry_limits, (c.requires.one_form, c.requires.not_empty)) c.stride.result c.stride.ensures)
+    (v_is c.args.self c.args.q (c.requires.carry_limits, (c.requires.one_form, c.requires.not_empty)) c.stride.result c.stride.ensures c.partner_value.result record { sfits = c.partner_value.type_inv } c.partner_value.ensures)
     (to_z-of_z (fits_a c.requires.carry_limits))

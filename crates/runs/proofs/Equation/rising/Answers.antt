@@ -26,8 +26,8 @@ module _ (p : Class) (n : ℤ) (w : Within limit (p.step *ℤ n) × Within limit
   turned_is e t = rw (t, to_z-of_z fits_first, to_z-of_z fits_step, to_z-of_z fits_n, to_z-of_z (fits_limit w.0), to_z-of_z (fits_limit w.1)) refl
 
 pub overflow_sub-result : goal.overflow_sub-result
-overflow_sub-result c = lowest_asked c.args.p c.args.more (c.requires.within, c.requires.within_2) (search rules) (search rules) c.ranges.more
+overflow_sub-result c = lowest_asked c.args.p c.args.more (c.requires.way, c.requires.lowest) (search rules) (search rules) c.ranges.more
 
 pub returns-then-self-gt0 : goal.returns-then-self-gt0
-returns-then-self-gt0 c = turned_is c.args.p c.args.more (c.requires.within, c.requires.within_2) (search rules) (search rules) c.ranges.more
+returns-then-self-gt0 c = turned_is c.args.p c.args.more (c.requires.way, c.requires.lowest) (search rules) (search rules) c.ranges.more
     c.args.self (test_is c.args.self (search rules) c.if-self-gt0.true)

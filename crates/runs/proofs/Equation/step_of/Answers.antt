@@ -1,8 +1,7 @@
 -- `Equation::step_of` meets its contract.
 use mathlib.Core.Path.{◌≡◌, refl, ◌∙◌, ap}
-use Prim.Native.Nat.{ℕ}
 use mir.Syntax.{w64}
-use mir.Val.{SFits, to_z}
+use mir.Val.{SFits}
 use mir.Facts.{to_z-of_z}
 use Rattle.ints.specs.Within.{Within}
 use Rattle.ints.specs.Floor.{floor_div}
@@ -16,7 +15,7 @@ use Rattle.runs.specs.Method.{Class, Carriable, AllSolutions, stride, places_wit
 use Rattle.runs.proofs.ClassOfRun.{stride_small}
 use Rattle.runs.proofs.SolutionPeriod.{period_above, period_within}
 use Rattle.runs.proofs.CarryMethod.{product_small, parts_above}
-use Rattle.ints.proofs.Signed.{held, cast}
+use Rattle.ints.proofs.Signed.{held}
 use Rattle.runs.proofs.CarryWidths.{fits_b}
 use Rattle.runs.proofs.Equation.step_of.Goals as goal
 
@@ -32,54 +31,54 @@ module _ {e : Equation} {q : Run} {j : Class} (p : Carriable e q × AllSolutions
     not_zero = λ z. lin (j.step ∷ []) (z & period_above p.1) (search facts depth 20) (omega arith);
   }
 
-  module _ (n : ℕ) (is : n ≡ nat_abs (held e.b)) where
-    n_is : n ≡ nat_abs e.b
-    n_is = is ∙ ap nat_abs (to_z-of_z (fits_b p.0.limits))
+  module _ (n : ℤ) (is : n ≡ pos (nat_abs (held e.b))) where
+    n_is : n ≡ pos (nat_abs e.b)
+    n_is = is ∙ ap (λ b. pos (nat_abs b)) (to_z-of_z (fits_b p.0.limits))
 
-    n_small : Within 1000000 (pos n)
-    n_small = record { size = rw n_is p.0.limits.right.size }
+    n_small : Within 1000000 n
+    n_small = rw n_is record { size = p.0.limits.right.size }
 
-    n_cast : to_z w64 n ≡ pos n
-    n_cast = cast n (lin (pos n ∷ []) n_small (search facts depth 20) (omega arith))
+    fits_n : SFits w64 n
+    fits_n = lin (n ∷ []) n_small (search signed depth 20) (omega arith)
 
     module _ (t : ℤ) (t_is : t ≡ stride q) where
       fits_t : SFits w64 t
       fits_t = rw t_is (lin (stride q ∷ []) (stride_small p.0.form p.0.some) (search signed depth 20) (omega arith))
 
-      product_Within : Within limit (pos n *ℤ t)
+      product_Within : Within limit (n *ℤ t)
       product_Within = rw (n_is, t_is) (lin (pos (nat_abs e.b) ∷ stride q ∷ []) (product_small p.0) (search facts depth 20) (omega arith))
 
-      product_asked : SFits w64 (to_z w64 n *ℤ held t)
-      product_asked = rw (n_cast, to_z-of_z fits_t) (fits_limit product_Within)
+      product_asked : SFits w64 (held n *ℤ held t)
+      product_asked = rw (to_z-of_z fits_n, to_z-of_z fits_t) (fits_limit product_Within)
 
       module _ (g : ℤ) (eq : g ≡ floor_div (held e.a) (held j.step)) where
         g_is : g ≡ G
         g_is = answered limits_a floor_div eq
 
-        limits_g : DivisionLimits (pos n *ℤ t) g
+        limits_g : DivisionLimits (n *ℤ t) g
         limits_g = record {
           dividend = product_Within;
           divisor = rw g_is (floor-Within e.a j.step limits_a.not_zero limits_a.dividend);
           not_zero = rw g_is (lin (G ∷ []) (parts_above p.0 p.1) (search facts depth 20) (omega arith));
         }
 
-        limits_asked : DivisionLimits (held (to_z w64 n *ℤ held t)) (held g)
-        limits_asked = rw (n_cast, to_z-of_z fits_t) (asked limits_g)
+        limits_asked : DivisionLimits (held (held n *ℤ held t)) (held g)
+        limits_asked = rw (to_z-of_z fits_n, to_z-of_z fits_t) (asked limits_g)
 
-        result_is : (r : ℤ) → SFits w64 r → r ≡ floor_div (held (to_z w64 n *ℤ held t)) (held g) → held r ≡ step_of e q j
+        result_is : (r : ℤ) → SFits w64 r → r ≡ floor_div (held (held n *ℤ held t)) (held g) → held r ≡ step_of e q j
         result_is r fits h =
-            let h' : r ≡ floor_div (held (pos n *ℤ t)) (held g) = rw (n_cast, to_z-of_z fits_t) at h in
+            let h' : r ≡ floor_div (held (n *ℤ t)) (held g) = rw (to_z-of_z fits_n, to_z-of_z fits_t) at h in
             to_z-of_z fits ∙ answered limits_g floor_div h' ∙ rw (n_is, t_is, g_is) refl
 
-pub overflow_mul-size : goal.overflow_mul-size
-overflow_mul-size c = product_asked (c.requires.carriable, c.requires.all_solutions) c.size.result c.size.ensures c.stride.result c.stride.ensures
+pub overflow_mul-abs : goal.overflow_mul-abs
+overflow_mul-abs c = product_asked (c.requires.carriable, c.requires.all_solutions) c.abs.result c.abs.ensures.value c.stride.result c.stride.ensures
 
 pub quotient-requires : goal.quotient-requires
 quotient-requires c = asked (limits_a (c.requires.carriable, c.requires.all_solutions))
 
 pub quotient-requires-2 : goal.quotient-requires-2
-quotient-requires-2 c = limits_asked (c.requires.carriable, c.requires.all_solutions) c.size.result c.size.ensures c.stride.result c.stride.ensures c.quotient.result c.quotient.ensures
+quotient-requires-2 c = limits_asked (c.requires.carriable, c.requires.all_solutions) c.abs.result c.abs.ensures.value c.stride.result c.stride.ensures c.quotient.result c.quotient.ensures
 
 pub returns : goal.returns
-returns c = result_is (c.requires.carriable, c.requires.all_solutions) c.size.result c.size.ensures c.stride.result c.stride.ensures c.quotient.result c.quotient.ensures
+returns c = result_is (c.requires.carriable, c.requires.all_solutions) c.abs.result c.abs.ensures.value c.stride.result c.stride.ensures c.quotient.result c.quotient.ensures
     c.quotient-2.result record { sfits = c.quotient-2.type_inv } c.quotient-2.ensures

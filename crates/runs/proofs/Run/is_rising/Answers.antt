@@ -7,17 +7,14 @@ use mir.Syntax.{w64}
 use mir.Val.{SFits, to_z}
 use mir.Facts.{to_z-of_z}
 use Rattle.ints.specs.Within.{Within, is_within}
-use Rattle.ints.proofs.{ℤ, pos, ◌+ℤ◌, ◌-ℤ◌, ◌*ℤ◌, ◌≤ℤ◌, lt_z, List, [], ◌∷◌, arith, lin, ◌&◌, facts, prod, signed}
+use Rattle.ints.proofs.{ℤ, pos, ◌+ℤ◌, ◌-ℤ◌, ◌*ℤ◌, ◌≤ℤ◌, le_z, List, [], ◌∷◌, arith, lin, ◌&◌, facts, prod, signed}
 use Rattle.ints.proofs.Within.{Within-true}
-use Rattle.ints.proofs.Signed.{held, told, cast}
+use Rattle.ints.proofs.Signed.{held, cast}
 use Rattle.runs.specs.Run.{Run, OneForm, is_one_form, bound}
 use Rattle.runs.specs.Method.{span}
 use Rattle.runs.proofs.ClassOfRun.{first-Within, last_Within, sizes}
 use Rattle.runs.proofs.Refusals.{when, OneForm-iff, rising_form}
-use Rattle.runs.proofs.Run.is_rising.Goals.{Start, Then-is_within}
-use Rattle.runs.proofs.Run.is_rising.Lts as lts
-use Rattle.runs.proofs.Run.is_rising.Tie as tie
-use Rattle.runs.proofs.Run.is_rising.Reads as reads
+use Rattle.runs.proofs.Run.is_rising.Goals.{Then-is_within, then-self-ge1, else-self-ge1, then-self-le2000000000, else-self-le2000000000}
 use Rattle.runs.proofs.Run.is_rising.Goals as goal
 
 -- not in the one form
@@ -28,14 +25,17 @@ module _ (r : Run) (two : 2 ≤ r.many) (fits_first : SFits w64 r.first) (fits_s
   one : 1 ≤ r.many
   one = omega arith
 
-  steep : lt_z (pos 2000000000) (held r.step) ≡ true → false ≡ is_one_form r
+  flat : le_z (pos 1) (held r.step) ≡ false → false ≡ is_one_form r
+  flat t = not r (λ o. lin (r.step ∷ []) (o.rises two & t) (search (signed, fits_step) depth 20) (omega arith))
+
+  steep : le_z (held r.step) (pos 2000000000) ≡ false → false ≡ is_one_form r
   steep t = not r (λ o. lin (r.step ∷ []) ((sizes o one).step & t) (search (signed, fits_step) depth 20) (omega arith))
 
-  outside : is_within bound r.first ≡ false → false ≡ is_one_form r
-  outside t = not r (λ o. true≢false (sym ((Within-true bound r.first).1 (first-Within o one)) ∙ t))
+  outside : is_within bound (held r.first) ≡ false → false ≡ is_one_form r
+  outside t = not r (λ o. true≢false (sym ((Within-true bound r.first).1 (first-Within o one)) ∙ ap (is_within bound) (sym (to_z-of_z fits_first)) ∙ t))
 
   -- past the tests
-  module _ (low : lt_z (held r.step) (pos 1) ≡ false) (high : lt_z (pos 2000000000) (held r.step) ≡ false) (first : is_within bound r.first ≡ true) where
+  module _ (low : le_z (pos 1) (held r.step) ≡ true) (high : le_z (held r.step) (pos 2000000000) ≡ true) (first : is_within bound (held r.first) ≡ true) where
     abbrev ρ : List ℤ
     ρ = r.first ∷ r.step ∷ pos r.many ∷ []
 
@@ -46,7 +46,7 @@ module _ (r : Run) (two : 2 ≤ r.many) (fits_first : SFits w64 r.first) (fits_s
     up = lin ρ (low & high) (search (signed, fits_step) depth 20) (omega arith)
 
     there : Within bound r.first
-    there = (Within-true bound r.first).0 first
+    there = (Within-true bound r.first).0 (ap (is_within bound) (sym (to_z-of_z fits_first)) ∙ first)
 
     m_range : (pos 0 ≤ℤ m) × (m ≤ℤ pos 4294967294)
     m_range = lin ρ (two & many_fits) (search facts depth 20) (omega arith)
@@ -75,49 +75,41 @@ module _ (r : Run) (two : 2 ≤ r.many) (fits_first : SFits w64 r.first) (fits_s
     last_is : held (held r.first +ℤ held (held r.step *ℤ held (to_z w64 r.many -ℤ pos 1))) ≡ (span r).high
     last_is = rw (many_is, to_z-of_z fits_first, to_z-of_z fits_step, to_z-of_z fits_m, to_z-of_z fits_way) (to_z-of_z fits_last)
 
-    result_is : (t : Bool) → t ≡ is_within bound (held (held r.first +ℤ held (held r.step *ℤ held (to_z w64 r.many -ℤ pos 1)))) → t ≡ is_one_form r
-    result_is t e = e ∙ ap (is_within bound) last_is ∙ when (OneForm-iff r) (
+    result_is : {t : Bool} → t ≡ is_within bound (held (held r.first +ℤ held (held r.step *ℤ held (to_z w64 r.many -ℤ pos 1)))) → t ≡ is_one_form r
+    result_is e = e ∙ ap (is_within bound) last_is ∙ when (OneForm-iff r) (
       λ b. rising_form r two up.0 there ((Within-true bound (span r).high).0 b),
       λ o. (Within-true bound (span r).high).1 (last_Within o one),
     )
 
--- the arguments, at the first test
-module _ (c : lts.After-struct_told tie.the-claims reads.Pre reads.Post) where
-  abbrev s : Start
-  s = c.before.before
+-- what the tests said
+module _ (c : Then-is_within) where
+  abbrev r : Run
+  r = c.args.self
 
-  first_fits : SFits w64 s.args.self.first
-  first_fits = search rules
-
-  step_fits : SFits w64 s.args.self.step
-  step_fits = search rules
-
-  many_fits : s.args.self.many < 4294967296
-  many_fits = (search rules)
-
-pub returns-then-self-gt2000000000 : goal.returns-then-self-gt2000000000
-returns-then-self-gt2000000000 c = let k = c.before.before.before.before in steep (s k).args.self (s k).requires (first_fits k) (step_fits k) (many_fits k) c.if-self-gt2000000000.true
-
--- past the third test
-module _ (c : lts.Then3 tie.the-claims reads.Pre reads.Post) where
-  abbrev e : lts.Else2 tie.the-claims reads.Pre reads.Post
-  e = c.before.before.before
-
-  abbrev k : lts.After-struct_told tie.the-claims reads.Pre reads.Post
-  k = e.before.before.before.before
-
-  inside : is_within bound (s k).args.self.first ≡ true
-  inside = told (is_within bound) (first_fits k) c.is_within.ensures c.if-is_within.true
+  passed : (le_z (pos 1) (held r.step) ≡ true) × (le_z (held r.step) (pos 2000000000) ≡ true) × (is_within bound (held r.first) ≡ true)
+  passed = elim c.if-self-le2000000000.branch [
+    | then-self-le2000000000 v ↦ elim c.if-self-ge1.branch [
+      | then-self-ge1 w ↦ (w.if-self-ge1.true, sym w.value-is ∙ v.if-self-le2000000000.true, sym v.is_within.ensures ∙ sym v.value-is ∙ c.if-is_within.true)
+      | else-self-ge1 w ↦ absurd (false≢true (sym w.if-self-ge1.false ∙ sym w.value-is ∙ v.if-self-le2000000000.true))
+    ]
+    | else-self-le2000000000 v ↦ absurd (false≢true (sym v.if-self-le2000000000.false ∙ sym v.value-is ∙ c.if-is_within.true))
+  ]
 
 pub overflow_add-self : goal.overflow_add-self
-overflow_add-self c = let t = (goal.at.overflow_add-self c).Then-is_within.before in
-    last_asked (s (k t)).args.self (s (k t)).requires (first_fits (k t)) (step_fits (k t)) (many_fits (k t)) (e t).if-self-lt1.false (e t).if-self-gt2000000000.false (inside t)
+overflow_add-self c = let (low, high, first) = passed (goal.at.overflow_add-self c).Then-is_within in last_asked c.args.self c.requires (search rules) (search rules) (search rules) low high first
 
 pub returns-then-is_within : goal.returns-then-is_within
-returns-then-is_within c = let t = (goal.at.returns-then-is_within c).Then-is_within.before in
-    result_is (s (k t)).args.self (s (k t)).requires (first_fits (k t)) (step_fits (k t)) (many_fits (k t)) (e t).if-self-lt1.false (e t).if-self-gt2000000000.false (inside t)
-    c.is_within-then-is_within.result c.is_within-then-is_within.ensures
+returns-then-is_within c = let (low, high, first) = passed (goal.at.returns-then-is_within c).Then-is_within in
+    result_is c.args.self c.requires (search rules) (search rules) (search rules) low high first c.is_within-then-is_within.ensures
 
-pub returns : goal.returns
-returns c = let k = c.before.before.before.before.before.before.before in
-    outside (s k).args.self (s k).requires (first_fits k) (step_fits k) (many_fits k) (told (is_within bound) (first_fits k) c.is_within.ensures c.if-is_within.false)
+pub returns-else-is_within : goal.returns-else-is_within
+returns-else-is_within c = let fits_first : SFits w64 c.args.self.first = search rules in
+    let fits_step : SFits w64 c.args.self.step = search rules in
+    let many_fits : c.args.self.many < 4294967296 = search rules in
+    c.if-is_within.false ∙ elim c.if-self-ge1.branch [
+      | then-self-ge1 w ↦ elim c.if-self-le2000000000.branch [
+        | then-self-le2000000000 v ↦ outside c.args.self c.requires fits_first fits_step many_fits (sym v.is_within.ensures ∙ sym v.value-is ∙ c.if-is_within.false)
+        | else-self-le2000000000 v ↦ steep c.args.self c.requires fits_first fits_step many_fits (sym w.value-is ∙ v.if-self-le2000000000.false)
+      ]
+      | else-self-ge1 w ↦ flat c.args.self c.requires fits_first fits_step many_fits w.if-self-ge1.false
+    ]

@@ -68,13 +68,13 @@ module _ (r : Run) (i : Class) (p : OneForm r × ((1 ≤ r.many) × Places i)) (
   class_is = rw (to_z-of_z start_asked, to_z-of_z stride_asked, to_z-of_z fits_first, to_z-of_z way_asked, to_z-of_z fits_s, to_z-of_z fits_place, to_z-of_z fits_period) (ap (λ t. record { first = r.first +ℤ t *ℤ i.first; step = t *ℤ i.step }) is)
 
 pub overflow_mul-result : goal.overflow_mul-result
-overflow_mul-result c = way_asked c.args.self c.args.places (c.requires.one_form, (c.requires.le_many, c.requires.places)) c.stride-s.result c.stride-s.ensures
+overflow_mul-result c = way_asked c.args.self c.args.places (c.requires.one_form, (c.requires.not_empty, c.requires.places)) c.stride-s.result c.stride-s.ensures
 
 pub overflow_add-result : goal.overflow_add-result
-overflow_add-result c = start_asked c.args.self c.args.places (c.requires.one_form, (c.requires.le_many, c.requires.places)) c.stride-s.result c.stride-s.ensures
+overflow_add-result c = start_asked c.args.self c.args.places (c.requires.one_form, (c.requires.not_empty, c.requires.places)) c.stride-s.result c.stride-s.ensures
 
 pub overflow_mul-result-2 : goal.overflow_mul-result-2
-overflow_mul-result-2 c = stride_asked c.args.self c.args.places (c.requires.one_form, (c.requires.le_many, c.requires.places)) c.stride-s.result c.stride-s.ensures
+overflow_mul-result-2 c = stride_asked c.args.self c.args.places (c.requires.one_form, (c.requires.not_empty, c.requires.places)) c.stride-s.result c.stride-s.ensures
 
 pub returns : goal.returns
-returns c = class_is c.args.self c.args.places (c.requires.one_form, (c.requires.le_many, c.requires.places)) c.stride-s.result c.stride-s.ensures
+returns c = class_is c.args.self c.args.places (c.requires.one_form, (c.requires.not_empty, c.requires.places)) c.stride-s.result c.stride-s.ensures

@@ -28,9 +28,9 @@ module _ (a b : Run) (p : OneForm a × ((1 ≤ a.many) × (OneForm b × (1 ≤ b
   apart_is = to_z-of_z apart_asked ∙ ap₂ ◌-ℤ◌ (to_z-of_z fits_b) (to_z-of_z fits_a)
 
 pub overflow_sub-result : goal.overflow_sub-result
-overflow_sub-result c = apart_asked c.args.self c.args.other (c.requires.one_form, (c.requires.le_many, (c.requires.one_form_2, c.requires.le_many_2)))
+overflow_sub-result c = apart_asked c.args.self c.args.other (c.requires.one_form, (c.requires.not_empty, (c.requires.other_one_form, c.requires.other_not_empty)))
 
 pub returns : goal.returns
 returns c = let fits_one : SFits w64 c.stride.result = record { sfits = c.stride.type_inv } in
     let fits-two : SFits w64 c.stride-2.result = record { sfits = c.stride-2.type_inv } in
-    same_congruence (to_z-of_z fits_one ∙ c.stride.ensures) (apart_is c.args.self c.args.other (c.requires.one_form, (c.requires.le_many, (c.requires.one_form_2, c.requires.le_many_2)))) (to_z-of_z fits-two ∙ c.stride-2.ensures)
+    same_congruence (to_z-of_z fits_one ∙ c.stride.ensures) (apart_is c.args.self c.args.other (c.requires.one_form, (c.requires.not_empty, (c.requires.other_one_form, c.requires.other_not_empty)))) (to_z-of_z fits-two ∙ c.stride-2.ensures)

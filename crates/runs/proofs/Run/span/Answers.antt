@@ -38,12 +38,12 @@ module _ (r : Run) (p : OneForm r × (1 ≤ r.many)) where
 
 pub overflow_mul-result : goal.overflow_mul-result
 overflow_mul-result c = let r = c.args.self in
-    rw (many_is r (c.requires.one_form, c.requires.le_many), to_z-of_z (fits_step r (c.requires.one_form, c.requires.le_many)), to_z-of_z (fits_m r (c.requires.one_form, c.requires.le_many))) (fits_p r (c.requires.one_form, c.requires.le_many))
+    rw (many_is r (c.requires.one_form, c.requires.not_empty), to_z-of_z (fits_step r (c.requires.one_form, c.requires.not_empty)), to_z-of_z (fits_m r (c.requires.one_form, c.requires.not_empty))) (fits_p r (c.requires.one_form, c.requires.not_empty))
 
 pub overflow_add-result : goal.overflow_add-result
 overflow_add-result c = let r = c.args.self in
-    rw (many_is r (c.requires.one_form, c.requires.le_many), to_z-of_z (fits_first r (c.requires.one_form, c.requires.le_many)), to_z-of_z (fits_step r (c.requires.one_form, c.requires.le_many)), to_z-of_z (fits_m r (c.requires.one_form, c.requires.le_many)), to_z-of_z (fits_p r (c.requires.one_form, c.requires.le_many))) (fits_last r (c.requires.one_form, c.requires.le_many))
+    rw (many_is r (c.requires.one_form, c.requires.not_empty), to_z-of_z (fits_first r (c.requires.one_form, c.requires.not_empty)), to_z-of_z (fits_step r (c.requires.one_form, c.requires.not_empty)), to_z-of_z (fits_m r (c.requires.one_form, c.requires.not_empty)), to_z-of_z (fits_p r (c.requires.one_form, c.requires.not_empty))) (fits_last r (c.requires.one_form, c.requires.not_empty))
 
 pub returns : goal.returns
 returns c = let r = c.args.self in
-    rw (many_is r (c.requires.one_form, c.requires.le_many), to_z-of_z (fits_first r (c.requires.one_form, c.requires.le_many)), to_z-of_z (fits_step r (c.requires.one_form, c.requires.le_many)), to_z-of_z (fits_m r (c.requires.one_form, c.requires.le_many)), to_z-of_z (fits_p r (c.requires.one_form, c.requires.le_many)), to_z-of_z (fits_last r (c.requires.one_form, c.requires.le_many))) refl
+    rw (many_is r (c.requires.one_form, c.requires.not_empty), to_z-of_z (fits_first r (c.requires.one_form, c.requires.not_empty)), to_z-of_z (fits_step r (c.requires.one_form, c.requires.not_empty)), to_z-of_z (fits_m r (c.requires.one_form, c.requires.not_empty)), to_z-of_z (fits_p r (c.requires.one_form, c.requires.not_empty)), to_z-of_z (fits_last r (c.requires.one_form, c.requires.not_empty))) refl

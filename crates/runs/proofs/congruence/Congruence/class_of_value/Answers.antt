@@ -35,4 +35,4 @@ pub returns : goal.returns
 returns c = let x = c.args.self in
     let r = c.remainder.result in
     let fits-d : SFits w64 x.d = lin (x.d ∷ []) (c.requires.in_reach.above & c.requires.in_reach.modulus) (search signed depth 20) (omega arith) in
-    rw (to_z-of_z {w = w64} record { sfits = c.remainder.type_inv }, answered (limits_v x c.requires.in_reach c.requires.u_value) floor_mod c.remainder.ensures, to_z-of_z fits-d) (every x c.requires.in_reach c.requires.u_value)
+    rw (to_z-of_z {w = w64} record { sfits = c.remainder.type_inv }, answered (limits_v x c.requires.in_reach c.requires.factor_is_1) floor_mod c.remainder.ensures, to_z-of_z fits-d) (every x c.requires.in_reach c.requires.factor_is_1)
