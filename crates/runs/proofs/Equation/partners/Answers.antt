@@ -28,11 +28,11 @@ module _ {e : Equation} {q : Run} {j : Class} (p : Carriable e q × (AllSolution
     limits_asked : DivisionLimits (held v) (held e.a)
     limits_asked = divided_asked p.0.limits within v there
 
-pub numbers_at-requires : goal.numbers_at-requires
-numbers_at-requires c = let k = c.requires.carriable in let E = c.requires.all_solutions in let l = c.requires.first_inside in record { one_form = k.form; not_empty = k.some; places = carry_places k E }
+pub numbers_at-requires-clause-places : goal.numbers_at-requires-clause-places
+numbers_at-requires-clause-places c = carry_places c.requires.carriable c.requires.all_solutions
 
-pub partner_value-requires : goal.partner_value-requires
-partner_value-requires c = record { carry_limits = c.requires.carriable.limits; within = start_asked (c.requires.carriable, (c.requires.all_solutions, c.requires.first_inside)) c.numbers_at.result c.numbers_at.ensures }
+pub partner_value-requires-clause-within : goal.partner_value-requires-clause-within
+partner_value-requires-clause-within c = start_asked (c.requires.carriable, (c.requires.all_solutions, c.requires.first_inside)) c.numbers_at.result c.numbers_at.ensures
 
 pub quotient-requires : goal.quotient-requires
 quotient-requires c = limits_asked (c.requires.carriable, (c.requires.all_solutions, c.requires.first_inside)) c.numbers_at.result c.numbers_at.ensures c.partner_value.result c.partner_value.ensures

@@ -12,12 +12,9 @@ use Rattle.euclid.specs.Factor.{IsFactor}
 use Rattle.ints.proofs.Answers.{asked, answered}
 use Rattle.runs.proofs.CongruenceSolutions.{limits_value, nothing, no_rest}
 use Rattle.runs.proofs.congruence.Congruence.by_factor.Goals.{After-of-f, After-remainder}
-use Rattle.runs.proofs.congruence.Congruence.by_factor.Lts as lts
-use Rattle.runs.proofs.congruence.Congruence.by_factor.Tie as tie
-use Rattle.runs.proofs.congruence.Congruence.by_factor.Reads as reads
 use Rattle.runs.proofs.congruence.Congruence.by_factor.Goals as goal
 
-module _ (c : lts.After-of tie.the-claims reads.Pre reads.Post tie.handed_clauses) where
+module _ (c : After-of-f) where
   abbrev u : ℤ
   u = c.args.self.u
 
@@ -41,15 +38,15 @@ module _ (c : lts.After-of tie.the-claims reads.Pre reads.Post tie.handed_clause
   limits_v = limits_value c.requires factor
 
 -- what the test tells of the remainder
-module _ (c : lts.After-remainder tie.the-claims reads.Pre reads.Post tie.handed_clauses) where
+module _ (c : After-remainder) where
   abbrev r : ℤ
   r = c.remainder.result
 
   abbrev rest : ℤ
-  rest = floor_mod (v c.before.before.before) (g c.before.before.before)
+  rest = floor_mod c.args.self.v c.of-f.result.gcd
 
   rest_is : r ≡ rest
-  rest_is = answered (limits_v c.before.before.before) floor_mod c.remainder.ensures
+  rest_is = answered (limits_v (goal.at.After-remainder c).After-of-f) floor_mod c.remainder.ensures
 
   fits_r : SFits w64 r
   fits_r = record { sfits = c.remainder.type_inv }
@@ -61,13 +58,12 @@ module _ (c : lts.After-remainder tie.the-claims reads.Pre reads.Post tie.handed
   none t = lin (r ∷ rest ∷ []) (rest_is & t) (search (signed, fits_r) depth 20) (omega arith)
 
 pub remainder-requires : goal.remainder-requires
-remainder-requires c = asked (limits_v (goal.at.remainder-requires c).After-of-f.before)
+remainder-requires c = asked (limits_v (goal.at.remainder-requires c).After-of-f)
 
-pub class_by-requires : goal.class_by-requires
-class_by-requires c = let o = (goal.at.class_by-requires c).After-of-f.before in
-    let reach = c.requires in
-    record { in_reach = reach; factor = factor o; gcd = no_rest (factor o) reach.above (v o) (none (goal.at.class_by-requires c).After-remainder.before c.if-remainder-gt0.false) }
+pub class_by-requires-clause-gcd : goal.class_by-requires-clause-gcd
+class_by-requires-clause-gcd c = let o = (goal.at.class_by-requires-clause-gcd c).After-of-f in
+    no_rest (factor o) c.requires.above (v o) (none (goal.at.class_by-requires-clause-gcd c).After-remainder c.if-remainder-gt0.false)
 
 pub returns-then-remainder-gt0 : goal.returns-then-remainder-gt0
-returns-then-remainder-gt0 c = let o = (goal.at.returns-then-remainder-gt0 c).After-of-f.before in
-    nothing (factor o) c.requires.above (v o) (some (goal.at.returns-then-remainder-gt0 c).After-remainder.before c.if-remainder-gt0.true)
+returns-then-remainder-gt0 c = let o = (goal.at.returns-then-remainder-gt0 c).After-of-f in
+    nothing (factor o) c.requires.above (v o) (some (goal.at.returns-then-remainder-gt0 c).After-remainder c.if-remainder-gt0.true)
