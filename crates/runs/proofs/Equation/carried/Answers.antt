@@ -17,10 +17,6 @@ use Rattle.runs.specs.Method.{Class, Countable, Carriable, AllSolutions, places_
 use Rattle.runs.proofs.ClassOfRun.{sizes}
 use Rattle.runs.proofs.SolutionPeriod.{period_above}
 use Rattle.runs.proofs.CarryMethod.{carry_places, last_places, more_low, more_high, way_Within, lowest_Within, carry_Countable}
-use Rattle.runs.proofs.Equation.carried.Goals.{Else-last-j, Start}
-use Rattle.runs.proofs.Equation.carried.Lts as lts
-use Rattle.runs.proofs.Equation.carried.Tie as tie
-use Rattle.runs.proofs.Equation.carried.Reads as reads
 use Rattle.runs.proofs.Equation.carried.Goals as goal
 
 -- each number on the way, and that it fits
@@ -93,26 +89,22 @@ module _ {e : Equation} {q : Run} {j : Class} (p : Carriable e q × AllSolutions
           result_is : (r : Run) → r ≡ counted_run u (held n) → r ≡ carry_by (Some j) e q
           result_is r is = rw (test_is test) (is ∙ ap₂ counted_run there held_n)
 
--- past the test
-module _ (c : lts.Else1 tie.the-claims reads.Pre reads.Post tie.handed_clauses) where
-  abbrev s : Start
-  s = c.before.before.before.before
-
 pub returns-then-last-j : goal.returns-then-last-j
 returns-then-last-j c = past (c.requires.carriable, c.requires.all_solutions) c.if-last-j.true c.empty.result c.empty.ensures
 
 pub quotient-more-requires : goal.quotient-more-requires
-quotient-more-requires c = let t = (goal.at.quotient-more-requires c).Else-last-j.before in limits_asked ((s t).requires.carriable, (s t).requires.all_solutions) c.if-last-j.false
+quotient-more-requires c =
+    limits_asked (c.requires.carriable, c.requires.all_solutions) c.if-last-j.false
 
 pub rising-requires : goal.rising-requires
-rising-requires c = let t = (goal.at.rising-requires c).Else-last-j.before in
-    let both = rising_asked ((s t).requires.carriable, (s t).requires.all_solutions) c.if-last-j.false c.quotient-more.result c.quotient-more.ensures c.partners.result c.partners.ensures in record { way = both.0; lowest = both.1 }
+rising-requires c =
+    let both = rising_asked (c.requires.carriable, c.requires.all_solutions) c.if-last-j.false c.quotient-more.result c.quotient-more.ensures c.partners.result c.partners.ensures in record { way = both.0; lowest = both.1 }
 
 pub counted_run-requires : goal.counted_run-requires
-counted_run-requires c = let t = (goal.at.counted_run-requires c).Else-last-j.before in
-    Countable-asked ((s t).requires.carriable, (s t).requires.all_solutions) c.if-last-j.false c.quotient-more.result c.quotient-more.ensures c.partners.result c.partners.ensures c.rising.result c.rising.ensures
+counted_run-requires c =
+    Countable-asked (c.requires.carriable, c.requires.all_solutions) c.if-last-j.false c.quotient-more.result c.quotient-more.ensures c.partners.result c.partners.ensures c.rising.result c.rising.ensures
 
 pub returns : goal.returns
-returns c = let t = (goal.at.returns c).Else-last-j.before in
-    result_is ((s t).requires.carriable, (s t).requires.all_solutions) c.if-last-j.false c.quotient-more.result c.quotient-more.ensures c.partners.result c.partners.ensures c.rising.result c.rising.ensures
+returns c =
+    result_is (c.requires.carriable, c.requires.all_solutions) c.if-last-j.false c.quotient-more.result c.quotient-more.ensures c.partners.result c.partners.ensures c.rising.result c.rising.ensures
     c.counted_run.result c.counted_run.ensures

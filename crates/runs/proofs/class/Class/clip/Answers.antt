@@ -18,10 +18,6 @@ use Rattle.runs.specs.Run.{Run, empty}
 use Rattle.runs.specs.Method.{Class, Interval, Clippable, lowest_in, steps, progression, clip}
 use Rattle.runs.proofs.ClassInInterval.{steps_nonneg}
 use Rattle.ints.proofs.Answers.{asked, answered, fits_limit}
-use Rattle.runs.proofs.class.Class.clip.Goals.{Else-to-lowest, Start}
-use Rattle.runs.proofs.class.Class.clip.Lts as lts
-use Rattle.runs.proofs.class.Class.clip.Tie as tie
-use Rattle.runs.proofs.class.Class.clip.Reads as reads
 use Rattle.runs.proofs.class.Class.clip.Goals as goal
 
 -- each number on the way, and that it fits
@@ -140,36 +136,25 @@ pub returns-then-to-lowest : goal.returns-then-to-lowest
 returns-then-to-lowest c = none c.args.self c.args.to c.requires c.remainder.result c.remainder.ensures
     (search rules) c.empty.result c.empty.ensures c.if-to-lowest.true
 
--- past the test
-module _ (p : lts.Else1 tie.the-claims reads.Pre reads.Post) where
-  abbrev k : lts.After-remainder tie.the-claims reads.Pre reads.Post
-  k = p.before.before.before.before.before
-
-  abbrev s : Start
-  s = k.before.before.before.before.before.before
-
-  fits : SFits w64 s.args.to.high
-  fits = search rules
-
 pub overflow_sub-to : goal.overflow_sub-to
-overflow_sub-to c = let p = (goal.at.overflow_sub-to c).Else-to-lowest.before in
-    rest_asked (s p).args.self (s p).args.to (s p).requires (k p).remainder.result (k p).remainder.ensures (fits p) c.if-to-lowest.false
+overflow_sub-to c =
+    rest_asked c.args.self c.args.to c.requires c.remainder.result c.remainder.ensures (search rules) c.if-to-lowest.false
 
 pub quotient-steps-requires : goal.quotient-steps-requires
-quotient-steps-requires c = let p = (goal.at.quotient-steps-requires c).Else-to-lowest.before in
-    quotient_asked (s p).args.self (s p).args.to (s p).requires (k p).remainder.result (k p).remainder.ensures (fits p) c.if-to-lowest.false
+quotient-steps-requires c =
+    quotient_asked c.args.self c.args.to c.requires c.remainder.result c.remainder.ensures (search rules) c.if-to-lowest.false
 
 pub overflow_cast-steps : goal.overflow_cast-steps
-overflow_cast-steps c = let p = (goal.at.overflow_cast-steps c).Else-to-lowest.before in
-    cast_asked (s p).args.self (s p).args.to (s p).requires (k p).remainder.result (k p).remainder.ensures (fits p) c.if-to-lowest.false
+overflow_cast-steps c =
+    cast_asked c.args.self c.args.to c.requires c.remainder.result c.remainder.ensures (search rules) c.if-to-lowest.false
     c.quotient-steps.result c.quotient-steps.ensures
 
 pub progression-requires : goal.progression-requires
-progression-requires c = let p = (goal.at.progression-requires c).Else-to-lowest.before in
-    small_asked (s p).args.self (s p).args.to (s p).requires (k p).remainder.result (k p).remainder.ensures (fits p) c.if-to-lowest.false
+progression-requires c =
+    small_asked c.args.self c.args.to c.requires c.remainder.result c.remainder.ensures (search rules) c.if-to-lowest.false
     c.quotient-steps.result c.quotient-steps.ensures
 
 pub returns : goal.returns
-returns c = let p = (goal.at.returns c).Else-to-lowest.before in
-    some (s p).args.self (s p).args.to (s p).requires (k p).remainder.result (k p).remainder.ensures (fits p) c.if-to-lowest.false
+returns c =
+    some c.args.self c.args.to c.requires c.remainder.result c.remainder.ensures (search rules) c.if-to-lowest.false
     c.quotient-steps.result c.quotient-steps.ensures c.progression.result c.progression.ensures

@@ -15,9 +15,6 @@ use Rattle.ints.proofs.Answers.{fits_limit, asked, answered}
 use Rattle.euclid.proofs.Euclid.{cofactor_range}
 use Rattle.runs.proofs.CongruenceSolutions.{limits, period_range, every_by, limits_value, limits_modulus}
 use Rattle.runs.proofs.congruence.Congruence.class_by.Goals.{After-quotient, After-quotient-step, After-remainder-x, After-remainder-y, Start}
-use Rattle.runs.proofs.congruence.Congruence.class_by.Lts as lts
-use Rattle.runs.proofs.congruence.Congruence.class_by.Tie as tie
-use Rattle.runs.proofs.congruence.Congruence.class_by.Reads as reads
 use Rattle.runs.proofs.congruence.Congruence.class_by.Goals as goal
 
 -- ---- the arguments
@@ -50,9 +47,9 @@ module _ (s : Start) where
   limits_v = limits_value s.requires.in_reach factor
 
 -- ---- the step
-module _ (c : lts.After-quotient tie.the-claims reads.Pre reads.Post tie.handed_clauses) where
+module _ (c : After-quotient-step) where
   abbrev start : Start
-  start = c.before.before.before
+  start = (goal.at.After-quotient-step c).Start
 
   abbrev step : ℤ
   step = c.quotient-step.result
@@ -77,9 +74,9 @@ module _ (c : lts.After-quotient tie.the-claims reads.Pre reads.Post tie.handed_
   rest_Within {r} n e = lin (r ∷ step ∷ floor_mod n step ∷ []) (e & mod_range n step step_range.0 & step_range) (search facts depth 20) (omega arith)
 
 -- ---- the cofactor, reduced
-module _ (c : lts.After-remainder tie.the-claims reads.Pre reads.Post tie.handed_clauses) where
-  abbrev stepped : lts.After-quotient tie.the-claims reads.Pre reads.Post tie.handed_clauses
-  stepped = c.before.before
+module _ (c : After-remainder-x) where
+  abbrev stepped : After-quotient-step
+  stepped = (goal.at.After-remainder-x c).After-quotient-step
 
   abbrev t : ℤ
   t = c.remainder-x.result
@@ -89,8 +86,8 @@ module _ (c : lts.After-remainder tie.the-claims reads.Pre reads.Post tie.handed
 
 -- ---- v divided by the greatest common divisor
 module _ (c : After-quotient) where
-  abbrev reduced : lts.After-remainder tie.the-claims reads.Pre reads.Post tie.handed_clauses
-  reduced = c.before.before.before
+  abbrev reduced : After-remainder-x
+  reduced = (goal.at.After-quotient c).After-remainder-x
 
   abbrev origin : Start
   origin = start (stepped reduced)
@@ -109,9 +106,9 @@ module _ (c : After-quotient) where
 -- ---- that too, reduced
 module _ (c : After-remainder-y) where
   abbrev shared : After-quotient
-  shared = c.before
+  shared = (goal.at.After-remainder-y c).After-quotient
 
-  abbrev before : lts.After-quotient tie.the-claims reads.Pre reads.Post tie.handed_clauses
+  abbrev before : After-quotient-step
   before = stepped (reduced shared)
 
   abbrev t' : ℤ
@@ -148,10 +145,10 @@ pub quotient-step-requires : goal.quotient-step-requires
 quotient-step-requires c = asked (limits_d (goal.at.quotient-step-requires c).Start)
 
 pub remainder-x-requires : goal.remainder-x-requires
-remainder-x-requires c = asked (limits_x (goal.at.remainder-x-requires c).After-quotient-step.before)
+remainder-x-requires c = asked (limits_x (goal.at.remainder-x-requires c).After-quotient-step)
 
 pub quotient-requires : goal.quotient-requires
-quotient-requires c = asked (limits_v (start (stepped (goal.at.quotient-requires c).After-remainder-x.before)))
+quotient-requires c = asked (limits_v (start (stepped (goal.at.quotient-requires c).After-remainder-x)))
 
 pub remainder-y-requires : goal.remainder-y-requires
 remainder-y-requires c = asked (limits_w c)
