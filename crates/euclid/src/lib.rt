@@ -14,8 +14,9 @@ ghost use Rattle.euclid.specs.Factor.{IsFactor};
 
 use reasons::Reason;
 
-/// The greatest common divisor of two numbers, document 02's factor, and the number of divisions made: by remainders of their sizes, the first divided by the second to
-/// begin with, ending at the first remainder that is 0 or 1. Refused where a or b is 0 or larger than 1,000,000 in size.
+/// The greatest common divisor of two numbers, document 02's factor, and the number of divisions made: by remainders of their sizes, the
+/// first divided by the second to begin with, ending at the first remainder that is 0 or 1. Refused where a or b is 0 or larger than
+/// 1,000,000 in size.
 pub fn common_divisor(a: i64, b: i64) -> Result<(i64, u32), Reason>
     ensures answer { working_answer_of result ≡ common_divisor a b }
     ensures refused_unless { RefusedUnless (Coefficient a × Coefficient b) (working_answer_of result) }

@@ -4,94 +4,56 @@ use mathlib.Core.Logic.{◌≢◌}
 use Prim.Native.Nat.{◌≤◌}
 use native.Mathlib.Omega.{arith}
 use Rattle.std.specs.Prelude.{Option, Some, None}
-use Rattle.runs.specs.Run.{Run, OneForm}
+use Rattle.runs.specs.Run.{Run}
 use Rattle.runs.specs.Search.{meet}
-use Rattle.runs.specs.Method.{Class, Congruence, InReach, meet_by, Clippable, AllSolutions, Solves, span, common, clip, numbers_at, places_in}
+use Rattle.runs.specs.Method.{Class, Solves, common, clip, places_in, meet_by}
 use Rattle.runs.proofs.MeetMethod.{is_meet, met, meet_fair, places_in_reach, meet_places, empty_left, empty_right}
-use Rattle.runs.proofs.Run.meet.Goals.{After-common, After-solve, Else-other-eq0, In-Some, then-self-eq0-via-then-self-eq0, then-self-eq0-via-else-self-eq0+then-other-eq0}
+use Rattle.runs.proofs.Run.meet.Goals.{Else-other-eq0, After-solve, In-Some, then-self-eq0-via-then-self-eq0, then-self-eq0-via-else-self-eq0+then-other-eq0}
 use Rattle.runs.proofs.Run.meet.Goals as goal
 
 -- neither run is empty
 module _ (p : Else-other-eq0) where
-  abbrev a : Run
-  a = p.args.self
+  some : 1 ≤ p.args.self.many
+  some = let z : p.args.self.many ≢ 0 = p.if-self-eq0.false in omega arith
 
-  abbrev b : Run
-  b = p.args.other
-
-  form : OneForm a
-  form = p.requires.one_form
-
-  form' : OneForm b
-  form' = p.requires.other_one_form
-
-  some : 1 ≤ a.many
-  some = let z : a.many ≢ 0 = p.if-self-eq0.false in omega arith
-
-  some' : 1 ≤ b.many
-  some' = let z : b.many ≢ 0 = p.if-other-eq0.false in omega arith
+  some' : 1 ≤ p.args.other.many
+  some' = let z : p.args.other.many ≢ 0 = p.if-other-eq0.false in omega arith
 
 -- what the congruence gave
-asked : (s t : Congruence) → s ≡ t → InReach t → InReach s
-asked s t e h = rw e h
-
-subst₂ : {A B : Type 0} {x x' : A} {y y' : B} (P : A → B → Type 0) → x ≡ x' → y ≡ y' → P x' y' → P x y
-subst₂ P e d h = rw (e, d) h
-
 module _ (c : After-solve) where
+  abbrev a : Run
+  a = c.args.self
+
+  abbrev b : Run
+  b = c.args.other
+
   abbrev p : Else-other-eq0
-  p = c.before.before
+  p = (goal.at.After-solve c).Else-other-eq0
 
-  solves : Solves (places_in (a p) (b p)) c.solve.result
-  solves = subst (λ s. Solves s c.solve.result) c.places_in.ensures c.solve.ensures
+  solves : (sol : Option Class) → c.solve.result ≡ sol → Solves (places_in a b) sol
+  solves sol e = subst (Solves (places_in a b)) e (subst (λ s. Solves s c.solve.result) c.places_in.ensures c.solve.ensures)
 
-  pub meets : (r : Run) (sol : Option Class) → c.solve.result ≡ sol → r ≡ meet_by sol (a p) (b p) → r ≡ meet (a p) (b p)
-  meets r sol e is = is ∙ is_meet (form p) (met (form p) (form' p) (some p) (some' p) sol (subst (Solves (places_in (a p) (b p))) e solves))
-
-module _ (c : In-Some) where
-  abbrev q : Else-other-eq0
-  q = p c.before
-
-  abbrev i : Class
-  i = c.in-Some.i
-
-  every : AllSolutions (places_in (a q) (b q)) i
-  every = subst (Solves (places_in (a q) (b q))) c.in-Some.is (solves c.before)
+  meets : (r : Run) (sol : Option Class) → c.solve.result ≡ sol → r ≡ meet_by sol a b → r ≡ meet a b
+  meets r sol e is = is ∙ is_meet c.requires.one_form (met c.requires.one_form c.requires.other_one_form (some p) (some' p) sol (solves sol e))
 
 pub returns-then-self-eq0 : goal.returns-then-self-eq0
-returns-then-self-eq0 c =
-    c.empty.ensures
-    ∙ is_meet c.requires.one_form (elim c.then-self-eq0.branch [
-      | then-self-eq0-via-then-self-eq0 w ↦ empty_left c.args.other w.if-self-eq0.true
-      | then-self-eq0-via-else-self-eq0+then-other-eq0 w ↦ empty_right c.args.self w.if-other-eq0.true
-    ])
+returns-then-self-eq0 c = c.empty.ensures ∙ is_meet c.requires.one_form (elim c.then-self-eq0.branch [ then-self-eq0-via-then-self-eq0 w ↦ empty_left c.args.other w.if-self-eq0.true | then-self-eq0-via-else-self-eq0+then-other-eq0 w ↦ empty_right c.args.self w.if-other-eq0.true ])
 
 pub solve-requires : goal.solve-requires
-solve-requires c = let p = (goal.at.solve-requires c).Else-other-eq0 in asked c.places_in.result (places_in (a p) (b p)) c.places_in.ensures (places_in_reach (form p) (form' p) (some p) (some' p))
+solve-requires c = let p = (goal.at.solve-requires c).Else-other-eq0 in rw c.places_in.ensures (places_in_reach c.requires.one_form c.requires.other_one_form (some p) (some' p))
 
 pub numbers_at-requires-clause-places : goal.numbers_at-requires-clause-places
-numbers_at-requires-clause-places c = let p = q c in meet_places (form p) (form' p) (some p) (some' p) (i c) (every c)
-
--- what the calls before `clip` gave
-module _ (c : After-common) where
-  abbrev k : In-Some
-  k = c.before.before.before.before
-
-  class_is : c.numbers_at.result ≡ numbers_at (a (q k)) (i k)
-  class_is = c.numbers_at.ensures
-
-  interval_is : c.common.result ≡ common (span (a (q k))) (span (b (q k)))
-  interval_is = c.common.ensures ∙ ap₂ common c.span.ensures c.span-in-Some.ensures
-
-  clip_asked : Clippable c.numbers_at.result c.common.result
-  clip_asked = subst₂ Clippable class_is interval_is (meet_fair (form (q k)) (form' (q k)) (some (q k)) (some' (q k)) (i k) (every k))
+numbers_at-requires-clause-places c = let s = (goal.at.numbers_at-requires-clause-places c).After-solve in
+    meet_places c.requires.one_form c.requires.other_one_form (some (p s)) (some' (p s)) c.in-Some.i (solves s (Some c.in-Some.i) c.in-Some.is)
 
 pub clip-requires : goal.clip-requires
-clip-requires c = clip_asked c
+clip-requires c = let s = (goal.at.clip-requires c).After-solve in
+    rw (c.numbers_at.ensures, c.common.ensures, c.span.ensures, c.span-in-Some.ensures)
+    (meet_fair c.requires.one_form c.requires.other_one_form (some (p s)) (some' (p s)) c.in-Some.i (solves s (Some c.in-Some.i) c.in-Some.is))
 
 pub returns-in-None : goal.returns-in-None
 returns-in-None c = meets (goal.at.returns-in-None c).After-solve c.empty-in-None.result None c.in-None.is c.empty-in-None.ensures
 
 pub returns-in-Some : goal.returns-in-Some
-returns-in-Some c = let k = (goal.at.returns-in-Some c).In-Some in
-    meets (goal.at.returns-in-Some c).After-solve c.clip.result (Some (i k)) c.in-Some.is (c.clip.ensures ∙ ap₂ clip (class_is (goal.at.returns-in-Some c).After-common) (interval_is (goal.at.returns-in-Some c).After-common))
+returns-in-Some c = meets (goal.at.returns-in-Some c).After-solve c.clip.result (Some c.in-Some.i) c.in-Some.is
+    (c.clip.ensures ∙ ap₂ clip c.numbers_at.ensures (c.common.ensures ∙ ap₂ common c.span.ensures c.span-in-Some.ensures))
