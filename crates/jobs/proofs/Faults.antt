@@ -18,8 +18,9 @@ use Rattle.jobs.specs.Amendments.{amendment_count, job_in}
 use Rattle.jobs.specs.Component.{component_count, component}
 use Rattle.jobs.specs.ReasonTable.{MisSized, Broken, header_checks, equation_checks, row_checks, amendment_checks, area_checks, checks, IsFirst, Reported, Faultless}
 use Rattle.jobs.specs.Decide.{first_where}
-use Rattle.jobs.specs.declared.Checked.{Checked}
-use Rattle.jobs.specs.Faults.{breaks?, first_broken, accepted, refused, answered, fault_of, answer_of, checked, ChecksExactly}
+use Rattle.std.specs.Prelude.{Result}
+use Rattle.reasons.specs.Answer.{fault_of}
+use Rattle.jobs.specs.Faults.{breaks?, first_broken, accepted, refused, answered, answer_of, checked, ChecksExactly}
 use Rattle.jobs.proofs.FirstOf.{first_none, first_here, first_later, first_past, first_stays, first_before, First-iff, first_same, none_holds, holds_none}
 use Rattle.jobs.proofs.Numbering.{component_numbers, groups_are}
 
@@ -291,11 +292,11 @@ module _ (s a : List ℕ) where
     acceptance = (λ e. (Faultless-iff none_lent).0 (accepted_none e), λ f. ap answered ((Faultless-iff none_lent).1 f));
   }
 
-  pub is_checked : (x : Checked) → fault_of x ≡ first_broken (lending_nothing s a) → answer_of x ≡ checked s a
+  pub is_checked : {A : Type 0} (x : Result A Reason) → fault_of x ≡ first_broken (lending_nothing s a) → answer_of x ≡ checked s a
   unfolding checked
   is_checked x e = ap answered e
 
-  -- and so is that of the program's enum, where its reason is the first fault
-  pub answers_exactly : (x : Checked) → fault_of x ≡ first_broken (lending_nothing s a) → (fault_of x ≡ first_broken (lending_nothing s a)) × ChecksExactly s a (answer_of x)
+  -- and so is that of the program's result, where its reason is the first fault
+  pub answers_exactly : {A : Type 0} (x : Result A Reason) → fault_of x ≡ first_broken (lending_nothing s a) → (fault_of x ≡ first_broken (lending_nothing s a)) × ChecksExactly s a (answer_of x)
   unfolding checked
   answers_exactly x e = (e, subst (ChecksExactly s a) (sym (ap answered e)) checks_exactly)

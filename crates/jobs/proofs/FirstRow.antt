@@ -9,14 +9,14 @@ use native.Mathlib.Decide.{ℕ_discrete}
 use Rattle.reasons.specs.declared.Reason.{Reason}
 use Rattle.lists.specs.Table.{table_from, table}
 use Rattle.lists.proofs.Table.{in-table}
-use Rattle.jobs.specs.declared.Checked.{Checked}
-use Rattle.jobs.specs.declared.Checked.TheVariants.{Accepted, Refused}
+use Rattle.std.specs.Prelude.{Result, Ok, Err}
+use Rattle.reasons.specs.Answer.{fault_of}
 use Rattle.jobs.specs.Call.{Call}
 use Rattle.jobs.specs.Amendments.{job_in}
 use Rattle.jobs.specs.Component.{component_count}
 use Rattle.jobs.specs.ReasonTable.{Broken}
 use Rattle.jobs.specs.Decide.{below_next, first_where}
-use Rattle.jobs.specs.Faults.{breaks?, fault_of}
+use Rattle.jobs.specs.Faults.{breaks?}
 use Rattle.jobs.specs.FirstRow.{FirstRow}
 use Rattle.jobs.proofs.FirstOf.{first_here, first_later, holds_none}
 
@@ -57,9 +57,9 @@ module _ {A : Type 0} {P : A → Type 0} (d : (x : A) → Dec (P x)) (f : ℕ �
   first_in_table t k h n p = let e : 0 + t ≡ t = omega arith in first_from 0 t k h (λ u l. let q : 0 + u ≡ u = omega arith in subst (λ j. ¬ P (f j)) (sym q) (n u l)) (subst (λ j. P (f j)) (sym e) p) ∙ ap (λ j. some (f j)) e
 
 -- where P says when the table's rule for such a row is broken
-pub pass_fault : (c : Call) (reason : ℕ → Reason) (P : ℕ → Type 0) (k : ℕ) → ((t : ℕ) → Broken (component_count (job_in c)) c (reason t) ↔ ((t < k) × P t)) →
-    (r : Checked) → FirstRow reason P k r → first_where (breaks? c) (table reason k) ≡ fault_of r
-pass_fault c reason P k same Accepted f =
+pub pass_fault : {A : Type 0} (c : Call) (reason : ℕ → Reason) (P : ℕ → Type 0) (k : ℕ) → ((t : ℕ) → Broken (component_count (job_in c)) c (reason t) ↔ ((t < k) × P t)) →
+    (r : Result A Reason) → FirstRow reason P k r → first_where (breaks? c) (table reason k) ≡ fault_of r
+pass_fault c reason P k same (Ok x) f =
     holds_none (breaks? c) (table reason k) (λ r m b. let (t, h, e) = (in-table reason k r).0 m in f t h ((same t).0 (subst (Broken (component_count (job_in c)) c) e b)).1)
-pass_fault c reason P k same (Refused r) (t, (e, (h, (p, n)))) =
+pass_fault c reason P k same (Err r) (t, (e, (h, (p, n)))) =
     first_in_table (breaks? c) reason t k h (λ u l b. n u l ((same u).0 b).1) ((same t).1 (h, p)) ∙ ap some (sym e)

@@ -3,12 +3,16 @@ use Rattle.std.specs.Prelude.{List, ℕ, ◌<◌, length, get_or, pos}
 use Rattle.ints.specs.Within.{Within}
 use Rattle.lists.specs.Table.{table}
 use Rattle.runs.specs.Run.{bound}
-use Rattle.jobs.specs.Job.{Job, variable}
+use Rattle.jobs.specs.Job.{Variable, Job, variable}
 pub use Rattle.jobs.specs.declared.Bounds.{Bounds}
 
 -- past the last of a list all is 0
 abbrev pub no_bounds : Bounds
 no_bounds = record { low = pos 0; high = pos 0 }
+
+-- those in a variable's row
+abbrev pub variable_bounds : Variable → Bounds
+variable_bounds v = record { low = v.low; high = v.high }
 
 -- the job with these bounds in place of its own
 unfoldable pub with_bounds : Job → List Bounds → Job

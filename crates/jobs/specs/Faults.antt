@@ -1,11 +1,10 @@
 -- The first fault of a call, as a function that computes, and what the job check answers.
-use Rattle.std.specs.Prelude.{◌≡◌, ◌↔◌, true, List, ℕ, ◌+◌, ◌*◌, length, take}
+use Rattle.std.specs.Prelude.{◌≡◌, ◌↔◌, true, List, ℕ, ◌+◌, ◌*◌, length, take, Result}
 use Rattle.std.proofs.Math.Option.{Option, none, some}
 use Rattle.reasons.specs.declared.Reason.{Reason}
 use Rattle.reasons.specs.declared.Reason.TheVariants.{ShortJob, WrongMark, TooMany, WrongHeader, VariableRange, EquationVariables, EquationRange, ShortArea, WrongArgument, ShortMap, AmendmentsLength, AmendmentZero, AmendmentReference, AmendmentTwice, AmendmentRange}
 use Rattle.reasons.specs.Numbers.{number_of, row_of}
-use Rattle.jobs.specs.declared.Checked.{Checked}
-use Rattle.jobs.specs.declared.Checked.TheVariants.{Accepted, Refused}
+use Rattle.reasons.specs.Answer.{fault_of}
 use Rattle.ints.specs.Within.{Within}
 use Rattle.runs.specs.Run.{bound}
 use Rattle.little_endian.specs.LittleEndian.{u32}
@@ -112,13 +111,9 @@ abbrev pub answered : Option Reason → Answer
 answered none = accepted
 answered (some r) = refused (number_of r) (row_of r)
 
--- what each case of the program's enum says
-abbrev pub fault_of : Checked → Option Reason
-fault_of Accepted = none
-fault_of (Refused r) = some r
-
-abbrev pub answer_of : Checked → Answer
-answer_of c = answered (fault_of c)
+-- what the program's result says
+abbrev pub answer_of : {A : Type 0} → Result A Reason → Answer
+answer_of x = answered (fault_of x)
 
 unfoldable pub checked : List ℕ → List ℕ → Answer
 unfolding first_broken

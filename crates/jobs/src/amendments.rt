@@ -1,19 +1,25 @@
 //! Amendment sheets, document 02's #105: read, tested, and put over the bounds of a job.
 
-ghost use Rattle.std.specs.Prelude.{◌≡◌, true, ◌↔◌, ◌≢◌, ◌≤◌, ◌<◌};
-ghost use Rattle.reasons.specs.declared.Reason.TheVariants.{AmendmentZero, AmendmentReference, AmendmentTwice, AmendmentRange};
-ghost use Rattle.jobs.specs.Call.{lending_nothing};
-ghost use Rattle.jobs.specs.Job.{RowsInside};
+ghost use Rattle.std.specs.Prelude.{◌≡◌, true, ◌↔◌, ◌≢◌, ◌≤◌, ◌<◌, ◌*◌, length, IfOk, OnErr};
+ghost use Rattle.reasons.specs.declared.Reason.TheVariants.{AmendmentZero, AmendmentReference, AmendmentTwice, AmendmentRange, AmendmentsLength};
 ghost use Rattle.jobs.specs.Bounds.{Bounded};
 ghost use Rattle.jobs.specs.Amendments.{amendment_count, amendments_of, amendment, zero_at, amendment_bounds};
-ghost use Rattle.jobs.specs.ReasonTable.{serial_before, SupersedesEarlier, Misreferenced, Twice, amendment_checks};
-ghost use Rattle.jobs.specs.Decide.{first_where};
-ghost use Rattle.jobs.specs.Faults.{breaks?, fault_of};
-ghost use Rattle.jobs.specs.FirstRow.{FirstRow};
+ghost use Rattle.jobs.specs.ReasonTable.{MisSized, serial_before, SupersedesEarlier, Misreferenced, Twice};
+ghost use Rattle.jobs.specs.FirstRow.{FirstRow, RefusedOn};
 ghost use Rattle.jobs.specs.AmendmentPasses.{Referenced, PlaceOf, Marks, Overlaid};
 
-use crate::{Amendment, Bounds, Checked, header};
+use crate::{Accepted, Amendment, Bounds, Shape};
 use reasons::Reason;
+
+/// Sheets of 20 bytes, as many as may be given.
+#[derive(Clone, Copy)]
+pub struct Amendments<'a> {
+    pub bytes: &'a [u8],
+    pub count: usize,
+    ghost whole: { length bytes.now ≡ 20 * count },
+    ghost few: { count ≤ 512 },
+    ghost counted: { count ≡ amendment_count bytes.now },
+}
 
 impl Amendment {
     // The sheet in row t.
@@ -35,221 +41,181 @@ impl Amendment {
     fn in_range(self) -> bool
         ensures { (result ≡ true) ↔ Bounded (amendment_bounds self) }
     {
-        if ints::is_within(1000000000, self.low) {
-            return ints::is_within(1000000000, self.high);
-        }
-        false
+        ints::is_within(1000000000, self.low) && ints::is_within(1000000000, self.high)
+    }
+
+    /// The bounds that replace those of the variable's row.
+    pub fn bounds(self) -> Bounds
+        ensures { result ≡ amendment_bounds self }
+    {
+        let Amendment { low, high, .. } = self;
+        Bounds { low, high }
     }
 }
 
-// The first fault of a job's amendments: reasons 11, 12, 13 and 5, each over all sheets before the next.
-pub(crate) fn check(job: &[u8], amendments: &[u8]) -> Checked
-    requires { RowsInside job.now }
-    ensures { fault_of result ≡ first_where (breaks? (lending_nothing job.now amendments.now)) (amendment_checks amendments.now) }
-{
-    let n = header::variable_count(job);
-    let k = amendments.len() / 20;
-    if amendments.len() != 20 * k {
-        return Checked::Refused(Reason::AmendmentsLength);
-    }
-    if 512 < k {
-        return Checked::Refused(Reason::AmendmentsLength);
-    }
-    let zeros = check_zeros(amendments, k);
-    match zeros {
-        Checked::Refused(reason) => return Checked::Refused(reason),
-        Checked::Accepted => {}
-    }
-    let references = check_references(amendments, n, k);
-    match references {
-        Checked::Refused(reason) => return Checked::Refused(reason),
-        Checked::Accepted => {}
-    }
-    let twice = check_twice(amendments, n, k);
-    match twice {
-        Checked::Refused(reason) => return Checked::Refused(reason),
-        Checked::Accepted => {}
-    }
-    check_ranges(amendments, k)
-}
-
-// The first of k sheets with something in its zero field.
-fn check_zeros(amendments: &[u8], k: usize) -> Checked
-    requires k_value { k ≡ amendment_count amendments.now }
-    requires k_bound { k ≤ 512 }
-    ensures { FirstRow AmendmentZero (λ t. zero_at amendments.now t ≢ 0) k result }
-{
-    let mut t: usize = 0;
-    loop {
-        if t == k {
-            break Checked::Accepted;
+impl<'a> Amendments<'a> {
+    /// The sheets that these bytes are, or reason 11: a length that no number of sheets has, or too many of them.
+    pub fn open(bytes: &'a [u8]) -> Result<Amendments<'a>, Reason>
+        ensures opened { IfOk result (λ x. x.bytes.now ≡ bytes.now) }
+        ensures refused { RefusedOn AmendmentsLength (MisSized bytes.now) result }
+    {
+        let count = bytes.len() / 20;
+        if bytes.len() % 20 != 0 || 512 < count {
+            return Err(Reason::AmendmentsLength);
         }
-        if little_endian::u16_at(amendments, 20 * t + 10) != 0 {
-            break Checked::Refused(Reason::AmendmentZero(t as u16));
-        }
-        t += 1;
+        Ok(Amendments { bytes, count })
     }
-}
 
-// The first of k sheets whose number does not rise, whose variable is not below n, or that supersedes no earlier one for its variable
-// though it says so.
-fn check_references(amendments: &[u8], n: usize, k: usize) -> Checked
-    requires k_value { k ≡ amendment_count amendments.now }
-    requires k_bound { k ≤ 512 }
-    ensures { FirstRow AmendmentReference (Misreferenced n (amendments_of amendments.now)) k result }
-{
-    let mut before: u64 = 0;
-    let mut t: usize = 0;
-    loop {
-        if t == k {
-            break Checked::Accepted;
-        }
-        let a = Amendment::read(amendments, t);
-        if is_misreferenced(amendments, n, t, a, before) {
-            break Checked::Refused(Reason::AmendmentReference(t as u16));
-        }
-        before = a.serial;
-        t += 1;
-    }
-}
-
-// Does the sheet a in row t, behind one with the number `before`, break that rule? Those before it keep it.
-fn is_misreferenced(amendments: &[u8], n: usize, t: usize, a: Amendment, before: u64) -> bool
-    requires t_bound { t < amendment_count amendments.now }
-    requires a_value { a ≡ amendment (amendments_of amendments.now) t }
-    requires before_value { before ≡ serial_before (amendments_of amendments.now) t }
-    requires referenced { Referenced n (amendments_of amendments.now) t }
-    ensures { (result ≡ true) ↔ Misreferenced n (amendments_of amendments.now) t }
-{
-    if a.serial <= before {
-        return true;
-    }
-    if n <= a.variable {
-        return true;
-    }
-    if a.supersedes == 0 {
-        return false;
-    }
-    !is_earlier(amendments, n, t, a)
-}
-
-// Is what the sheet a in row t supersedes an earlier one for its variable? Those before it have numbers that rise.
-fn is_earlier(amendments: &[u8], n: usize, t: usize, a: Amendment) -> bool
-    requires t_bound { t < amendment_count amendments.now }
-    requires a_value { a ≡ amendment (amendments_of amendments.now) t }
-    requires referenced { Referenced n (amendments_of amendments.now) t }
-    ensures { (result ≡ true) ↔ SupersedesEarlier (amendments_of amendments.now) t }
-{
-    let u = place(amendments, n, a.supersedes, t);
-    if u == t {
-        return false;
-    }
-    let b = Amendment::read(amendments, u);
-    if b.serial != a.supersedes {
-        return false;
-    }
-    b.variable == a.variable
-}
-
-// Where a number stands among those of the first k sheets, or would stand: they rise, so each step halves what is left.
-fn place(amendments: &[u8], n: usize, serial: u64, k: usize) -> usize
-    requires k_bound { k ≤ amendment_count amendments.now }
-    requires referenced { Referenced n (amendments_of amendments.now) k }
-    ensures { PlaceOf (amendments_of amendments.now) serial k result }
-{
-    let mut low: usize = 0;
-    let mut high: usize = k;
-    while low < high {
-        let middle = low + (high - low) / 2;
-        if little_endian::u32_at(amendments, 20 * middle) < serial {
-            low = middle + 1;
-        } else {
-            high = middle;
-        }
-    }
-    low
-}
-
-// The first of k sheets in force after another in force for its variable.
-fn check_twice(amendments: &[u8], n: usize, k: usize) -> Checked
-    requires k_value { k ≡ amendment_count amendments.now }
-    requires k_bound { k ≤ 512 }
-    requires n_bound { n ≤ 256 }
-    requires referenced { Referenced n (amendments_of amendments.now) k }
-    ensures { FirstRow AmendmentTwice (Twice (amendments_of amendments.now)) k result }
-{
-    let superseded = superseded(amendments, n, k);
-    let mut taken: [bool; 256] = [false; 256];
-    let mut t: usize = 0;
-    loop {
-        if t == k {
-            break Checked::Accepted;
-        }
-        let i = little_endian::u16_at(amendments, 20 * t + 8) as usize;
-        if !superseded[t] {
-            if taken[i] {
-                break Checked::Refused(Reason::AmendmentTwice(t as u16));
+    /// The first sheet with something in its zero field: reason 11.
+    pub fn check_zeros(self) -> Result<(), Reason>
+        ensures { FirstRow AmendmentZero (λ t. zero_at self.entry.bytes.now t ≢ 0) self.entry.count result }
+    {
+        'rows: {
+            for t in 0..self.count {
+                if little_endian::u16_at(self.bytes, 20 * t + 10) != 0 {
+                    break 'rows Err(Reason::AmendmentZero(t as u16));
+                }
             }
-            taken[i] = true;
+            Ok(())
         }
-        t += 1;
+    }
+
+    /// The first sheet whose number does not rise, that names no variable of the job, or that supersedes no earlier one for its variable
+    /// though it says so: reason 12.
+    pub fn check_references(self, shape: Shape) -> Result<(), Reason>
+        ensures { FirstRow AmendmentReference (Misreferenced shape.variables (amendments_of self.entry.bytes.now)) self.entry.count result }
+    {
+        let mut before: u64 = 0;
+        'rows: {
+            for t in 0..self.count {
+                let a = Amendment::read(self.bytes, t);
+                if self.is_misreferenced(shape, t, a, before) {
+                    break 'rows Err(Reason::AmendmentReference(t as u16));
+                }
+                before = a.serial;
+            }
+            Ok(())
+        }
+    }
+
+    // Does the sheet a in row t, behind one with the number `before`, break that rule? Those before it keep it.
+    fn is_misreferenced(self, shape: Shape, t: usize, a: Amendment, before: u64) -> bool
+        requires in_reach { t < self.count }
+        requires sheet_read { a ≡ amendment (amendments_of self.bytes.now) t }
+        requires serial_read { before ≡ serial_before (amendments_of self.bytes.now) t }
+        requires referenced { Referenced shape.variables (amendments_of self.bytes.now) t }
+        ensures { (result ≡ true) ↔ Misreferenced shape.variables (amendments_of self.entry.bytes.now) t }
+    {
+        a.serial <= before
+            || shape.variables <= a.variable
+            || a.supersedes != 0 && !self.supersedes_earlier(shape, t, a)
+    }
+
+    // Is what the sheet a in row t supersedes an earlier one for its variable? Those before it have numbers that rise.
+    fn supersedes_earlier(self, shape: Shape, t: usize, a: Amendment) -> bool
+        requires in_reach { t < self.count }
+        requires sheet_read { a ≡ amendment (amendments_of self.bytes.now) t }
+        requires referenced { Referenced shape.variables (amendments_of self.bytes.now) t }
+        ensures { (result ≡ true) ↔ SupersedesEarlier (amendments_of self.entry.bytes.now) t }
+    {
+        let u = self.place(shape, a.supersedes, t);
+        if u == t {
+            return false;
+        }
+        let b = Amendment::read(self.bytes, u);
+        b.serial == a.supersedes && b.variable == a.variable
+    }
+
+    // Where a number stands among those of the first k sheets, or would stand: they rise, so each step halves what is left. The sheets are
+    // bytes, which no search of the library's goes through.
+    fn place(self, shape: Shape, serial: u64, k: usize) -> usize
+        requires in_reach { k ≤ self.count }
+        requires referenced { Referenced shape.variables (amendments_of self.bytes.now) k }
+        ensures { PlaceOf (amendments_of self.entry.bytes.now) serial k result }
+    {
+        let mut low: usize = 0;
+        let mut high: usize = k;
+        while low < high {
+            let middle = low + (high - low) / 2;
+            if Amendment::read(self.bytes, middle).serial < serial {
+                low = middle + 1;
+            } else {
+                high = middle;
+            }
+        }
+        low
+    }
+
+    /// The first sheet in force after another in force for its variable: reason 13.
+    pub fn check_twice(self, shape: Shape) -> Result<(), Reason>
+        requires referenced { Referenced shape.variables (amendments_of self.bytes.now) self.count }
+        ensures { FirstRow AmendmentTwice (Twice (amendments_of self.entry.bytes.now)) self.entry.count result }
+    {
+        let superseded = self.superseded(shape);
+        let mut taken = [false; 256];
+        'rows: {
+            for t in 0..self.count {
+                let i = Amendment::read(self.bytes, t).variable;
+                if !superseded[t] {
+                    if taken[i] {
+                        break 'rows Err(Reason::AmendmentTwice(t as u16));
+                    }
+                    taken[i] = true;
+                }
+            }
+            Ok(())
+        }
+    }
+
+    // Which sheets are superseded.
+    fn superseded(self, shape: Shape) -> [bool; 512]
+        requires referenced { Referenced shape.variables (amendments_of self.bytes.now) self.count }
+        ensures { Marks (amendments_of self.entry.bytes.now) result }
+    {
+        let mut superseded = [false; 512];
+        for t in 0..self.count {
+            let serial = Amendment::read(self.bytes, t).supersedes;
+            if serial != 0 {
+                let u = self.place(shape, serial, self.count);
+                superseded[u] = true;
+            }
+        }
+        superseded
+    }
+
+    /// The first sheet whose bounds are out of range, in force or not: reason 5.
+    pub fn check_ranges(self) -> Result<(), Reason>
+        ensures { FirstRow AmendmentRange (λ t. Bounded (amendment_bounds (amendment (amendments_of self.entry.bytes.now) t)) → ⊥) self.entry.count result }
+    {
+        'rows: {
+            for t in 0..self.count {
+                if !Amendment::read(self.bytes, t).in_range() {
+                    break 'rows Err(Reason::AmendmentRange(t as u16));
+                }
+            }
+            Ok(())
+        }
     }
 }
 
-// Which of k sheets are superseded.
-fn superseded(amendments: &[u8], n: usize, k: usize) -> [bool; 512]
-    requires k_value { k ≡ amendment_count amendments.now }
-    requires k_bound { k ≤ 512 }
-    requires referenced { Referenced n (amendments_of amendments.now) k }
-    ensures { Marks (amendments_of amendments.now) result }
-{
-    let mut superseded: [bool; 512] = [false; 512];
-    let mut t: usize = 0;
-    while t < k {
-        let serial = little_endian::u32_at(amendments, 20 * t + 4);
-        if serial != 0 {
-            let u = place(amendments, n, serial, k);
-            superseded[u] = true;
-        }
-        t += 1;
-    }
-    superseded
-}
-
-// The first of k sheets whose bounds are out of range, in force or not.
-fn check_ranges(amendments: &[u8], k: usize) -> Checked
-    requires k_value { k ≡ amendment_count amendments.now }
-    requires k_bound { k ≤ 512 }
-    ensures { FirstRow AmendmentRange (λ t. Bounded (amendment_bounds (amendment (amendments_of amendments.now) t)) → ⊥) k result }
-{
-    let mut t: usize = 0;
-    loop {
-        if t == k {
-            break Checked::Accepted;
-        }
-        if !Amendment::read(amendments, t).in_range() {
-            break Checked::Refused(Reason::AmendmentRange(t as u16));
-        }
-        t += 1;
+impl Accepted<'_, '_> {
+    /// Puts the bounds of each sheet over those of its variable. Of sheets that the check accepts the last for a variable is the one in
+    /// force.
+    pub fn overlay(self, bounds: &mut [Bounds; 256])
+        ensures { Overlaid (amendments_of self.entry.amendments.bytes.now) bounds.old bounds.new }
+    {
+        overlay(self.amendments.bytes, bounds, self.job.job.shape.variables);
     }
 }
 
-/// Puts the bounds of each sheet over those of its variable, row by row. Of sheets that the check accepts the last for a variable is the
-/// one in force.
+/// Puts the bounds of each sheet over those of its variable, row by row.
 pub fn overlay(amendments: &[u8], bounds: &mut [Bounds; 256], n: usize)
     requires n_bound { n ≤ 256 }
     requires referenced { Referenced n (amendments_of amendments.now) (amendment_count amendments.now) }
     ensures { Overlaid (amendments_of amendments.now) bounds.old bounds.new }
 {
-    let k = amendments.len() / 20;
-    let mut t: usize = 0;
-    while t < k {
+    for t in 0..amendments.len() / 20 {
         let a = Amendment::read(amendments, t);
-        let i = a.variable;
-        bounds[i] = Bounds {
-            low: a.low,
-            high: a.high,
-        };
-        t += 1;
+        bounds[a.variable] = a.bounds();
     }
 }

@@ -3,16 +3,16 @@
 //! Read `specs/Lib.antt` for the definitions, then this file, then the modules from the bottom up.
 #![tactic(auto)]
 
-ghost use Rattle.std.specs.Prelude.{◌≡◌};
-ghost use mathlib.Core.List.{[], flat_map};
-ghost use Rattle.lists.specs.Table.{table, up_to};
-ghost use Rattle.reasons.specs.declared.Reason.TheVariants.{VariableRange};
+ghost use Rattle.std.specs.Prelude.{◌≡◌, ◌≤◌, IfOk};
+ghost use mathlib.Core.List.{[]};
+ghost use Rattle.reasons.specs.Answer.{fault_of};
 ghost use Rattle.jobs.specs.Call.{lending_nothing};
 ghost use Rattle.jobs.specs.Job.{RowsInside, variable_count, equation_count};
-ghost use Rattle.jobs.specs.Decide.{first_where};
-ghost use Rattle.jobs.specs.ReasonTable.{equation_checks, row_checks};
-ghost use Rattle.jobs.specs.Faults.{breaks?, first_broken, fault_of, answer_of, ChecksExactly};
+ghost use Rattle.jobs.specs.Lawful.{Lawful};
+ghost use Rattle.jobs.specs.ReasonTable.{Faultless};
+ghost use Rattle.jobs.specs.Faults.{first_broken, answer_of, ChecksExactly};
 
+use amendments::Amendments;
 use reasons::Reason;
 
 // the rows of variables and of equations
@@ -60,88 +60,85 @@ pub struct Amendment {
     pub high: i64,
 }
 
-/// What the job check answers.
+/// How many variables and equations a job has, document 01's n and m.
 #[derive(Clone, Copy)]
-pub enum Checked {
-    Accepted,
-    Refused(Reason),
+pub struct Shape {
+    pub variables: usize,
+    pub equations: usize,
+    ghost few_variables: { variables ≤ 256 },
+    ghost few_equations: { equations ≤ 1024 },
+}
+
+/// A job whose bytes are as many as its rows take, so that every row can be read.
+#[derive(Clone, Copy)]
+pub struct Job<'a> {
+    pub bytes: &'a [u8],
+    pub shape: Shape,
+    ghost rows: { RowsInside bytes.now },
+    ghost variables_counted: { shape.variables ≡ variable_count bytes.now },
+    ghost equations_counted: { shape.equations ≡ equation_count bytes.now },
+}
+
+/// What the job check lets through.
+#[derive(Clone, Copy)]
+pub struct LawfulJob<'a> {
+    pub job: Job<'a>,
+    ghost lawful: { Lawful job.bytes.now },
+}
+
+/// What the check of a job and its amendments lets through.
+#[derive(Clone, Copy)]
+pub struct Accepted<'j, 'a> {
+    pub job: LawfulJob<'j>,
+    pub amendments: Amendments<'a>,
+    ghost faultless: { Faultless (lending_nothing job.job.bytes.now amendments.bytes.now) },
 }
 
 /// The job check: accepted, or refused with the first failing check of document 01's table, reasons 1 to 7. Takes any bytes.
-pub fn check(job: &[u8]) -> Checked
-    ensures result_value { fault_of result ≡ first_broken (lending_nothing job.now []) }
+pub fn check(job: &[u8]) -> Result<(), Reason>
+    ensures first_fault { fault_of result ≡ first_broken (lending_nothing job.now []) }
     ensures checks_exactly { ChecksExactly job.now [] (answer_of result) }
 {
-    let of_header = header::check(job);
-    match of_header {
-        Checked::Refused(reason) => Checked::Refused(reason),
-        Checked::Accepted => check_rows(job),
-    }
+    LawfulJob::of(job)?;
+    Ok(())
 }
 
 /// The check of a job and its amendments: as the job check, and then the amendments' reasons, 11, 12, 13 and 5. Takes any bytes.
-pub fn check_amended(job: &[u8], amendments: &[u8]) -> Checked
-    ensures result_value { fault_of result ≡ first_broken (lending_nothing job.now amendments.now) }
+pub fn check_amended(job: &[u8], amendments: &[u8]) -> Result<(), Reason>
+    ensures first_fault { fault_of result ≡ first_broken (lending_nothing job.now amendments.now) }
     ensures checks_exactly { ChecksExactly job.now amendments.now (answer_of result) }
 {
-    let of_job = check(job);
-    match of_job {
-        Checked::Refused(reason) => Checked::Refused(reason),
-        Checked::Accepted => amendments::check(job, amendments),
+    Accepted::of(job, amendments)?;
+    Ok(())
+}
+
+impl<'a> LawfulJob<'a> {
+    /// The job that these bytes are, or the first failing check of reasons 1 to 7. All variables' rows come before the equations' rows.
+    pub fn of(bytes: &'a [u8]) -> Result<LawfulJob<'a>, Reason>
+        ensures opened { IfOk result (λ j. j.job.bytes.now ≡ bytes.now) }
+        ensures first_fault { fault_of result ≡ first_broken (lending_nothing bytes.now []) }
+    {
+        let job = Job::open(bytes)?;
+        job.check_variables()?;
+        job.check_equations()?;
+        Ok(LawfulJob { job })
     }
 }
 
-// The first fault of the rows, of reasons 5 to 7: all variables' rows come before the equations' rows.
-fn check_rows(job: &[u8]) -> Checked
-    requires { RowsInside job.now }
-    ensures { fault_of result ≡ first_where (breaks? (lending_nothing job.now [])) (row_checks job.now) }
-{
-    let n = header::variable_count(job);
-    let m = header::equation_count(job);
-    let of_variables = check_variables(job, n);
-    match of_variables {
-        Checked::Refused(reason) => Checked::Refused(reason),
-        Checked::Accepted => check_equations(job, n, m),
-    }
-}
-
-// The first of n variables whose row breaks a rule, or none.
-fn check_variables(job: &[u8], n: usize) -> Checked
-    requires rows_inside { RowsInside job.now }
-    requires n_value { n ≡ variable_count job.now }
-    ensures { fault_of result ≡ first_where (breaks? (lending_nothing job.now [])) (table VariableRange n) }
-{
-    let mut i: usize = 0;
-    loop {
-        if i == n {
-            break Checked::Accepted;
-        }
-        if !Variable::read(job, i).in_range() {
-            break Checked::Refused(Reason::VariableRange(i as u16));
-        }
-        i += 1;
-    }
-}
-
-// The first of m equations whose row breaks a rule, or none. In one row the variables come before the coefficients.
-fn check_equations(job: &[u8], n: usize, m: usize) -> Checked
-    requires rows_inside { RowsInside job.now }
-    requires n_value { n ≡ variable_count job.now }
-    requires m_value { m ≡ equation_count job.now }
-    ensures { fault_of result ≡ first_where (breaks? (lending_nothing job.now [])) (flat_map equation_checks (up_to m)) }
-{
-    let mut k: usize = 0;
-    loop {
-        if k == m {
-            break Checked::Accepted;
-        }
-        let e = Equation::read(job, n, k);
-        if e.is_misnamed(n) {
-            break Checked::Refused(Reason::EquationVariables(k as u16));
-        }
-        if !e.in_limits() {
-            break Checked::Refused(Reason::EquationRange(k as u16));
-        }
-        k += 1;
+impl<'j, 'a> Accepted<'j, 'a> {
+    /// The job and the amendments that these bytes are, or the first failing check: the job's reasons, and then 11, 12, 13 and 5, each
+    /// over all sheets before the next.
+    pub fn of(job: &'j [u8], amendments: &'a [u8]) -> Result<Accepted<'j, 'a>, Reason>
+        ensures job_opened { IfOk result (λ x. x.job.job.bytes.now ≡ job.now) }
+        ensures amendments_opened { IfOk result (λ x. x.amendments.bytes.now ≡ amendments.now) }
+        ensures first_fault { fault_of result ≡ first_broken (lending_nothing job.now amendments.now) }
+    {
+        let job = LawfulJob::of(job)?;
+        let amendments = Amendments::open(amendments)?;
+        amendments.check_zeros()?;
+        amendments.check_references(job.job.shape)?;
+        amendments.check_twice(job.job.shape)?;
+        amendments.check_ranges()?;
+        Ok(Accepted { job, amendments })
     }
 }

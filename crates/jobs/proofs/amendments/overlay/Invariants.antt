@@ -14,7 +14,4 @@ pub record Over (xs : List Amendment) (k : ℕ) (before after : List Bounds) : T
   pub others : (i : ℕ) → ((t : ℕ) → t < k → ¬ ((amendment xs t).variable ≡ i)) → get_or after i no_bounds ≡ get_or before i no_bounds
 
 abbrev pub invariant-loop-t : goal.invariant-loop-t
-invariant-loop-t l = (l.t ≤ l.k) × Over (amendments_of l.amendments) l.t l.initial.bounds l.bounds
-
-abbrev pub decreases-loop-t : goal.decreases-loop-t
-decreases-loop-t l = l.k - l.t
+invariant-loop-t l = Over (amendments_of l.amendments) l.t l.initial.bounds l.bounds

@@ -6,7 +6,7 @@ use mathlib.Core.List.{List}
 use Prim.Native.Nat.{ℕ, ◌-◌, ◌≤◌, ◌<◌}
 use lib.ListN.{length, get_or}
 use Rattle.jobs.specs.Amendments.{Amendment, amendments_of, amendment}
-use Rattle.jobs.proofs.amendments.superseded.Given as goal
+use Rattle.jobs.proofs.amendments.Amendments.superseded.Given as goal
 
 -- the sheet in row u is superseded by one of the first t
 abbrev pub By : List Amendment → ℕ → ℕ → Type 0
@@ -18,7 +18,4 @@ pub record Marked (xs : List Amendment) (k t : ℕ) (marks : List Bool) : Type 0
   pub at : (u : ℕ) → u < k → (get_or marks u false ≡ true) ↔ By xs t u
 
 abbrev pub invariant-loop-t : goal.invariant-loop-t
-invariant-loop-t l = (l.t ≤ l.k) × Marked (amendments_of l.amendments) l.k l.t l.superseded
-
-abbrev pub decreases-loop-t : goal.decreases-loop-t
-decreases-loop-t l = l.k - l.t
+invariant-loop-t l = Marked (amendments_of l.self.bytes.now) l.self.count l.t l.superseded

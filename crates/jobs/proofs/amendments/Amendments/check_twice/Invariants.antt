@@ -8,7 +8,7 @@ use lib.ListN.{length, get_or}
 use Rattle.jobs.specs.Amendments.{Amendment, amendments_of}
 use Rattle.jobs.specs.ReasonTable.{Twice}
 use Rattle.jobs.proofs.AmendmentsInForce.{Governs}
-use Rattle.jobs.proofs.amendments.check_twice.Given as goal
+use Rattle.jobs.proofs.amendments.Amendments.check_twice.Given as goal
 
 -- for variable i one of the first t sheets is in force
 abbrev pub Held : List Amendment → ℕ → ℕ → Type 0
@@ -19,7 +19,4 @@ pub record Taken (xs : List Amendment) (t : ℕ) (taken : List Bool) : Type 0 wh
   pub at : (i : ℕ) → i < 256 → (get_or taken i false ≡ true) ↔ Held xs t i
 
 abbrev pub invariant-loop-t : goal.invariant-loop-t
-invariant-loop-t l = (l.t ≤ l.k) × (Taken (amendments_of l.amendments) l.t l.taken × ((u : ℕ) → u < l.t → ¬ Twice (amendments_of l.amendments) u))
-
-abbrev pub decreases-loop-t : goal.decreases-loop-t
-decreases-loop-t l = l.k - l.t
+invariant-loop-t l = (Taken (amendments_of l.self.bytes.now) l.t l.taken × ((u : ℕ) → u < l.t → ¬ Twice (amendments_of l.self.bytes.now) u))
