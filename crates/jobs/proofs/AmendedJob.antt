@@ -12,15 +12,15 @@ use Rattle.lists.specs.Table.{table, Tabulates}
 use Rattle.lists.proofs.Places.{same_places}
 use Rattle.lists.proofs.Table.{table_at}
 use Rattle.reasons.specs.declared.Reason.TheVariants.{AmendmentReference, AmendmentTwice, AmendmentRange}
-use Rattle.jobs.specs.Call.{Call}
+use Rattle.jobs.specs.Call.{Call, lending_nothing}
 use Rattle.jobs.specs.Job.{Job, job_of, variable_count, variable, no_variable}
 use Rattle.jobs.specs.Bounds.{Bounds, no_bounds, with_bounds, Bounded}
 use Rattle.jobs.specs.Amendments.{Amendment, amendment_count, amendments_of, amendment, governing, amendment_bounds, replaced, bounds_in_force, amended, job_in}
-use Rattle.jobs.specs.ReasonTable.{Twice}
+use Rattle.jobs.specs.ReasonTable.{Misreferenced, Twice, Faultless}
 use Rattle.jobs.specs.Lawful.{LawfulJob, Lawful}
 use Rattle.jobs.specs.Faults.{bounded?, first_broken}
 use Rattle.jobs.specs.AmendmentPasses.{Referenced, Overlaid}
-use Rattle.jobs.proofs.Faults.{sound_iff}
+use Rattle.jobs.proofs.Faults.{sound_iff, none_broken}
 use Rattle.jobs.proofs.Lawful.{decided, lawful}
 use Rattle.jobs.proofs.WithBounds.{same_length, same_equations, variable_with, lawful_with, with_same}
 use Rattle.jobs.proofs.AmendmentsInForce.{length-amendments_of, last_in_force, LastFor, last_or_none, Governs, in-governing, one_in_force, governing_is, governing_none}
@@ -129,6 +129,10 @@ module _ (c : Call) (e : first_broken c ≡ none) where
       own i h f =
           o.others i f ∙ b.at i h
           ∙ sym (ap (replaced sheets (variable (job_of s) i)) (governing_none sheets i (λ t l g. f t l g.0)))
+
+-- every sheet of a call without a fault keeps reason 12's rule
+pub faultless_referenced : (s a : List ℕ) {n : ℕ} → Faultless (lending_nothing s a) → n ≡ variable_count s → Referenced n (amendments_of a) (amendment_count a)
+faultless_referenced s a f n_is = record { at = λ t h m. (referenced (lending_nothing s a) (none_broken (lending_nothing s a) f)).at t (omega (arith, h, length-amendments_of a)) (subst (λ n. Misreferenced n (amendments_of a) t) n_is m) }
 
 -- ---- without amendments
 pub amended_by_none : (s : List ℕ) → amended s [] ≡ job_of s

@@ -5,7 +5,7 @@ use mathlib.Core.Logic.{◌↔◌, ◌⊎◌, inl, inr, ◌≢◌}
 use mathlib.Core.Bool.{Bool, true, not, ◌&&◌, false≢true, and-eq-true_iff}
 use mathlib.Core.List.Memᴰ
 use mathlib.Core.List.{List, [], ◌∷◌}
-use Prim.Native.Nat.{ℕ, zero, suc, ◌≤◌, ◌<◌}
+use Prim.Native.Nat.{ℕ, zero, suc, ◌+◌, ◌≤◌, ◌<◌}
 use native.Mathlib.Omega.{arith}
 use native.Mathlib.Decide.{ℕ_discrete, dec_lt}
 use lib.Dec.{eqb}
@@ -73,6 +73,21 @@ module _ {n : ℕ} {xs : List Amendment} {k : ℕ} (r : Referenced n xs k) where
       go : Dec (u ≡ v) → (u < v → (amendment xs u).serial < (amendment xs v).serial) → (amendment xs u).serial < (amendment xs (suc v)).serial
       go (yes e) f = rw e next
       go (no e) f = omega (arith, next, f (omega (arith, e, h)))
+
+  -- all before a smaller one are smaller, and all from a greater one on are not
+  pub behind_next : (serial m : ℕ) → m < k → (amendment xs m).serial < serial → (u : ℕ) → u < m + 1 → (amendment xs u).serial < serial
+  behind_next serial m h l u b = go (ℕ_discrete u m)
+    where
+      go : Dec (u ≡ m) → (amendment xs u).serial < serial
+      go (yes e) = rw e l
+      go (no e) = omega (arith, l, serials_rise u m (omega (arith, e, b)) h)
+
+  pub ahead_next : (serial m : ℕ) → serial ≤ (amendment xs m).serial → (u : ℕ) → m ≤ u → u < k → serial ≤ (amendment xs u).serial
+  ahead_next serial m l u b c = go (ℕ_discrete u m)
+    where
+      go : Dec (u ≡ m) → serial ≤ (amendment xs u).serial
+      go (yes e) = rw e l
+      go (no e) = omega (arith, l, serials_rise m u (omega (arith, e, b)) c)
 
   pub one_serial : (u v : ℕ) → u < k → v < k → (amendment xs u).serial ≡ (amendment xs v).serial → u ≡ v
   one_serial u v h l e = go (dec_lt u v) (dec_lt v u)

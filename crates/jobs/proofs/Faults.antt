@@ -18,7 +18,7 @@ use Rattle.jobs.specs.Amendments.{amendment_count, job_in}
 use Rattle.jobs.specs.Component.{component_count, component}
 use Rattle.jobs.specs.ReasonTable.{MisSized, Broken, header_checks, equation_checks, row_checks, amendment_checks, area_checks, checks, IsFirst, Reported, Faultless}
 use Rattle.jobs.specs.Decide.{first_where}
-use Rattle.std.specs.Prelude.{Result}
+use Rattle.std.specs.Prelude.{Result, Ok}
 use Rattle.reasons.specs.Answer.{fault_of}
 use Rattle.jobs.specs.Faults.{breaks?, first_broken, accepted, refused, answered, answer_of, checked, ChecksExactly}
 use Rattle.jobs.proofs.FirstOf.{first_none, first_here, first_later, first_past, first_stays, first_before, First-iff, first_same, none_holds, holds_none}
@@ -158,6 +158,9 @@ module _ (c : Call) where
     λ e k group f r b. sound_iff.0 e r (subst (λ k. Broken k c r) (groups_are (job_in c) k group f) b),
     λ h. sound_iff.1 (h g (component (job_in c)) (component_numbers (job_in c))),
   )
+
+pub none_broken : (c : Call) → Faultless c → first_broken c ≡ none
+none_broken c = (Faultless-iff c).1
 
 -- ---- no area is too short that is not lent, and no amendment breaks a rule where there is none
 pub not_lent : (s a : List ℕ) → first_where (breaks? (lending_nothing s a)) area_checks ≡ none
@@ -300,3 +303,9 @@ module _ (s a : List ℕ) where
   pub answers_exactly : {A : Type 0} (x : Result A Reason) → fault_of x ≡ first_broken (lending_nothing s a) → (fault_of x ≡ first_broken (lending_nothing s a)) × ChecksExactly s a (answer_of x)
   unfolding checked
   answers_exactly x e = (e, subst (ChecksExactly s a) (sym (ap answered e)) checks_exactly)
+
+  pub answer_exactly : {A : Type 0} (x : Result A Reason) → fault_of x ≡ first_broken (lending_nothing s a) → ChecksExactly s a (answer_of x)
+  answer_exactly x e = (answers_exactly x e).1
+
+  pub accepted_exactly : none ≡ first_broken (lending_nothing s a) → ChecksExactly s a accepted
+  accepted_exactly e = answer_exactly {A = Unit {0}} (Ok tt) e

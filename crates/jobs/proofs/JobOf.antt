@@ -1,10 +1,10 @@
 -- The rows of the job that bytes say.
-use mathlib.Core.Path.{◌≡◌}
+use mathlib.Core.Path.{◌≡◌, sym, ◌∙◌, ap}
 use mathlib.Core.List.{List}
 use Prim.Native.Nat.{ℕ, ◌<◌}
 use lib.ListN.{length}
 use Rattle.lists.proofs.Table.{length-table, table_at}
-use Rattle.jobs.specs.Job.{job_of, variable_count, equation_count, variable_at, equation_at, no_variable, no_equation, variable, equation}
+use Rattle.jobs.specs.Job.{job_of, variable_count, equation_count, variable_at, equation_at, no_variable, no_equation, variable, equation, equation_row_at, equation_from}
 
 module _ (s : List ℕ) where
   pub variables_of : length (job_of s).variables ≡ variable_count s
@@ -22,3 +22,7 @@ module _ (s : List ℕ) where
   pub equation_of : (k : ℕ) → k < equation_count s → equation (job_of s) k ≡ equation_at s k
   unfolding job_of
   equation_of k h = table_at (equation_at s) (equation_count s) k no_equation h
+
+  -- behind the rows of n variables
+  pub equation_behind : {n : ℕ} → n ≡ variable_count s → (k : ℕ) → k < equation_count s → equation_from s (equation_row_at n k) ≡ equation (job_of s) k
+  equation_behind e k h = ap (λ n. equation_from s (equation_row_at n k)) e ∙ sym (equation_of k h)

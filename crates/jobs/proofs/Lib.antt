@@ -9,7 +9,9 @@ pub mod NormalForm
 pub mod Branches
 -- the first member of a list of which a statement holds: `First-iff`
 pub mod FirstOf
--- the checks of the rows, row by row
+-- the checks of the header, one after the other
+pub mod HeaderChecks
+-- the checks of the equations' rows, row by row
 pub mod RowChecks
 -- what a pass over rows answers is their first fault: `pass_fault`
 pub mod FirstRow
@@ -26,10 +28,16 @@ pub mod Structure
 pub mod Faults
 -- a job that no check turns away is lawful: `lawful`
 pub mod Lawful
+-- the checks of a job, one after the other, and that one they all let through is lawful
+pub mod JobChecks
+-- the checks of a job's amendments, pass by pass
+pub mod AmendmentChecks
 -- a job with other bounds: what of it stays
 pub mod WithBounds
 -- amendment sheets that keep their rules: the last for a variable is in force (`last_in_force`), and no other (`one_in_force`)
 pub mod AmendmentsInForce
+-- what the passes over the sheets mark, sheet by sheet
+pub mod SheetMarks
 -- the job as amended: at most one sheet in force for each variable (`at_most_one`), whose bounds it has (`with_amendment`), or its row's
 -- (`without_amendment`); it is lawful (`lawful_amended`), and without amendments the job itself (`amended_by_none`)
 pub mod AmendedJob

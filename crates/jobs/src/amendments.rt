@@ -31,9 +31,9 @@ impl Amendment {
         Amendment {
             serial: little_endian::u32_at(amendments, at),
             supersedes: little_endian::u32_at(amendments, at + 4),
-            variable: little_endian::u16_at(amendments, at + 8) as usize,
-            low: little_endian::i32_at(amendments, at + 12),
-            high: little_endian::i32_at(amendments, at + 16),
+            variable: usize::from(little_endian::u16_at(amendments, at + 8)),
+            low: i64::from(little_endian::i32_at(amendments, at + 12)),
+            high: i64::from(little_endian::i32_at(amendments, at + 16)),
         }
     }
 
@@ -85,7 +85,7 @@ impl<'a> Amendments<'a> {
     pub fn check_references(self, shape: Shape) -> Result<(), Reason>
         ensures { FirstRow AmendmentReference (Misreferenced shape.variables (amendments_of self.entry.bytes.now)) self.entry.count result }
     {
-        let mut before: u64 = 0;
+        let mut before: u32 = 0;
         'rows: {
             for t in 0..self.count {
                 let a = Amendment::read(self.bytes, t);
@@ -99,7 +99,7 @@ impl<'a> Amendments<'a> {
     }
 
     // Does the sheet a in row t, behind one with the number `before`, break that rule? Those before it keep it.
-    fn is_misreferenced(self, shape: Shape, t: usize, a: Amendment, before: u64) -> bool
+    fn is_misreferenced(self, shape: Shape, t: usize, a: Amendment, before: u32) -> bool
         requires in_reach { t < self.count }
         requires sheet_read { a ≡ amendment (amendments_of self.bytes.now) t }
         requires serial_read { before ≡ serial_before (amendments_of self.bytes.now) t }
@@ -128,7 +128,7 @@ impl<'a> Amendments<'a> {
 
     // Where a number stands among those of the first k sheets, or would stand: they rise, so each step halves what is left. The sheets are
     // bytes, which no search of the library's goes through.
-    fn place(self, shape: Shape, serial: u64, k: usize) -> usize
+    fn place(self, shape: Shape, serial: u32, k: usize) -> usize
         requires in_reach { k ≤ self.count }
         requires referenced { Referenced shape.variables (amendments_of self.bytes.now) k }
         ensures { PlaceOf (amendments_of self.entry.bytes.now) serial k result }
@@ -201,6 +201,7 @@ impl<'a> Amendments<'a> {
 impl Accepted<'_, '_> {
     /// Puts the bounds of each sheet over those of its variable. Of sheets that the check accepts the last for a variable is the one in
     /// force.
+    #[tactic(auto, using(crate::proofs::AmendedJob::faultless_referenced))]
     pub fn overlay(self, bounds: &mut [Bounds; 256])
         ensures { Overlaid (amendments_of self.entry.amendments.bytes.now) bounds.old bounds.new }
     {

@@ -17,7 +17,7 @@ pub fn variable_count(job: &[u8]) -> usize
     requires { 24 ≤ length job.now }
     ensures { result ≡ variable_count job.now }
 {
-    little_endian::u16_at(job, 4) as usize
+    usize::from(little_endian::u16_at(job, 4))
 }
 
 /// How many equations, document 01's m.
@@ -25,7 +25,7 @@ pub fn equation_count(job: &[u8]) -> usize
     requires { 24 ≤ length job.now }
     ensures { result ≡ equation_count job.now }
 {
-    little_endian::u16_at(job, 6) as usize
+    usize::from(little_endian::u16_at(job, 6))
 }
 
 // The mark of a job.
@@ -33,6 +33,7 @@ const MARK: [u8; 4] = *b"FIT1";
 
 impl<'a> Job<'a> {
     /// The job that these bytes are, where the header is right, or the first failing check of reasons 1 to 4.
+    #[tactic(auto, using(crate::proofs::HeaderChecks::short, crate::proofs::HeaderChecks::unmarked, crate::proofs::HeaderChecks::ill_laid, crate::proofs::HeaderChecks::well_laid))]
     pub fn open(bytes: &'a [u8]) -> Result<Job<'a>, Reason>
         ensures opened { IfOk result (λ j. j.bytes.now ≡ bytes.now) }
         ensures first_fault { fault_of result ≡ first_where (breaks? (lending_nothing bytes.now [])) header_checks }
@@ -48,7 +49,10 @@ impl<'a> Job<'a> {
         if 256 < variables || 1024 < equations {
             return Err(Reason::TooMany);
         }
-        let shape = Shape { variables, equations };
+        let shape = Shape {
+            variables,
+            equations,
+        };
         if !is_laid_out(bytes, shape) {
             return Err(Reason::WrongHeader);
         }
@@ -66,8 +70,8 @@ fn is_laid_out(job: &[u8], shape: Shape) -> bool
     let equations = 24 + 12 * shape.variables;
     let whole = equations + 20 * shape.equations;
     little_endian::u32_at(job, 8) == 24
-        && little_endian::u32_at(job, 12) == equations as u64
-        && little_endian::u32_at(job, 16) == whole as u64
+        && little_endian::u32_at(job, 12) as usize == equations
+        && little_endian::u32_at(job, 16) as usize == whole
         && little_endian::u32_at(job, 20) == 0
         && job.len() == whole
 }

@@ -53,8 +53,8 @@ pub struct Bounds {
 /// variable's row while it is in force.
 #[derive(Clone, Copy)]
 pub struct Amendment {
-    pub serial: u64,
-    pub supersedes: u64,
+    pub serial: u32,
+    pub supersedes: u32,
     pub variable: usize,
     pub low: i64,
     pub high: i64,
@@ -95,6 +95,7 @@ pub struct Accepted<'j, 'a> {
 }
 
 /// The job check: accepted, or refused with the first failing check of document 01's table, reasons 1 to 7. Takes any bytes.
+#[tactic(auto, using(crate::proofs::Faults::answer_exactly, crate::proofs::Faults::accepted_exactly))]
 pub fn check(job: &[u8]) -> Result<(), Reason>
     ensures first_fault { fault_of result ≡ first_broken (lending_nothing job.now []) }
     ensures checks_exactly { ChecksExactly job.now [] (answer_of result) }
@@ -104,6 +105,7 @@ pub fn check(job: &[u8]) -> Result<(), Reason>
 }
 
 /// The check of a job and its amendments: as the job check, and then the amendments' reasons, 11, 12, 13 and 5. Takes any bytes.
+#[tactic(auto, using(crate::proofs::Faults::answer_exactly, crate::proofs::Faults::accepted_exactly))]
 pub fn check_amended(job: &[u8], amendments: &[u8]) -> Result<(), Reason>
     ensures first_fault { fault_of result ≡ first_broken (lending_nothing job.now amendments.now) }
     ensures checks_exactly { ChecksExactly job.now amendments.now (answer_of result) }
@@ -114,6 +116,7 @@ pub fn check_amended(job: &[u8], amendments: &[u8]) -> Result<(), Reason>
 
 impl<'a> LawfulJob<'a> {
     /// The job that these bytes are, or the first failing check of reasons 1 to 7. All variables' rows come before the equations' rows.
+    #[tactic(auto, using(crate::proofs::JobChecks::header_fault))]
     pub fn of(bytes: &'a [u8]) -> Result<LawfulJob<'a>, Reason>
         ensures opened { IfOk result (λ j. j.job.bytes.now ≡ bytes.now) }
         ensures first_fault { fault_of result ≡ first_broken (lending_nothing bytes.now []) }
@@ -128,6 +131,7 @@ impl<'a> LawfulJob<'a> {
 impl<'j, 'a> Accepted<'j, 'a> {
     /// The job and the amendments that these bytes are, or the first failing check: the job's reasons, and then 11, 12, 13 and 5, each
     /// over all sheets before the next.
+    #[tactic(auto, using(crate::proofs::AmendmentChecks::job_fault, crate::proofs::AmendmentChecks::length_fault))]
     pub fn of(job: &'j [u8], amendments: &'a [u8]) -> Result<Accepted<'j, 'a>, Reason>
         ensures job_opened { IfOk result (λ x. x.job.job.bytes.now ≡ job.now) }
         ensures amendments_opened { IfOk result (λ x. x.amendments.bytes.now ≡ amendments.now) }

@@ -24,9 +24,9 @@ impl Job<'_> {
     {
         let at = 24 + 12 * i;
         Variable {
-            low: little_endian::i32_at(self.bytes, at),
-            high: little_endian::i32_at(self.bytes, at + 4),
-            weight: little_endian::i32_at(self.bytes, at + 8),
+            low: i64::from(little_endian::i32_at(self.bytes, at)),
+            high: i64::from(little_endian::i32_at(self.bytes, at + 4)),
+            weight: i64::from(little_endian::i32_at(self.bytes, at + 8)),
         }
     }
 
@@ -37,10 +37,10 @@ impl Job<'_> {
     {
         let at = 24 + 12 * self.shape.variables + 20 * k;
         Equation {
-            left: little_endian::u16_at(self.bytes, at) as usize,
-            right: little_endian::u16_at(self.bytes, at + 2) as usize,
-            a: little_endian::i32_at(self.bytes, at + 4),
-            b: little_endian::i32_at(self.bytes, at + 8),
+            left: usize::from(little_endian::u16_at(self.bytes, at)),
+            right: usize::from(little_endian::u16_at(self.bytes, at + 2)),
+            a: i64::from(little_endian::i32_at(self.bytes, at + 4)),
+            b: i64::from(little_endian::i32_at(self.bytes, at + 8)),
             c: little_endian::i64_at(self.bytes, at + 12),
         }
     }
@@ -60,6 +60,7 @@ impl Job<'_> {
     }
 
     // The first equation whose row breaks a rule, or none. In one row the variables come before the coefficients.
+    #[tactic(auto, using(crate::proofs::RowChecks::all_left, crate::proofs::RowChecks::none_left, crate::proofs::RowChecks::row_passed, crate::proofs::RowChecks::row_out))]
     pub(crate) fn check_equations(self) -> Result<(), Reason>
         ensures { fault_of result ≡ first_where (breaks? (lending_nothing self.entry.bytes.now [])) (flat_map equation_checks (up_to (equation_count self.entry.bytes.now))) }
     {

@@ -1,7 +1,7 @@
 -- `overlay` meets its contract: each sheet is put over what the sheets before it left.
 use mathlib.Core.Path.{◌≡◌}
 use mathlib.Core.List.{List}
-use Prim.Native.Nat.{ℕ, ◌-◌, ◌≤◌, ◌<◌}
+use Prim.Native.Nat.{ℕ, ◌<◌}
 use lib.ListN.{length, get_or}
 use Rattle.jobs.specs.Bounds.{Bounds, no_bounds}
 use Rattle.jobs.specs.Amendments.{Amendment, amendments_of, amendment, amendment_bounds}
