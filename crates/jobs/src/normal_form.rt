@@ -9,32 +9,27 @@ use crate::Equation;
 
 impl Equation {
     /// Does it join two variables? They differ, and neither coefficient is 0.
+    #[tactic(auto, unfolding(crate::specs::NormalForm::is_binary))]
     pub fn is_binary(self) -> bool
         ensures { result ≡ is_binary self }
     {
-        if self.left == self.right {
-            return false;
-        }
-        if self.a == 0 {
-            return false;
-        }
-        self.b != 0
+        self.left != self.right && self.a != 0 && self.b != 0
     }
 
     // The variable whose group it belongs to: one with a coefficient that is not 0, or the left one.
+    #[tactic(auto, unfolding(crate::specs::NormalForm::home))]
     fn home(self) -> usize
         ensures { result ≡ home self }
     {
-        if self.a != 0 {
-            return self.left;
+        if self.a == 0 && self.b != 0 {
+            self.right
+        } else {
+            self.left
         }
-        if self.b != 0 {
-            return self.right;
-        }
-        self.left
     }
 
     /// In normal form: as it stands where it is binary, and else with its home on both sides and the sum of its coefficients there.
+    #[tactic(auto, unfolding(crate::specs::NormalForm::normal))]
     pub fn normal(self) -> Equation
         requires { Coefficients self }
         ensures { result ≡ normal self }
@@ -48,7 +43,7 @@ impl Equation {
             right: home,
             a: self.a + self.b,
             b: 0,
-            c: self.c,
+            ..self
         }
     }
 }
