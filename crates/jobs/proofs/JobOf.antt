@@ -2,6 +2,7 @@
 use mathlib.Core.Path.{◌≡◌, sym, ◌∙◌, ap}
 use mathlib.Core.List.{List}
 use Prim.Native.Nat.{ℕ, ◌<◌}
+use native.Mathlib.Omega.{arith}
 use lib.ListN.{length}
 use Rattle.lists.proofs.Table.{length-table, table_at}
 use Rattle.jobs.specs.Job.{job_of, variable_count, equation_count, variable_at, equation_at, no_variable, no_equation, variable, equation, equation_row_at, equation_from}
@@ -23,6 +24,9 @@ module _ (s : List ℕ) where
   unfolding job_of
   equation_of k h = table_at (equation_at s) (equation_count s) k no_equation h
 
-  -- behind the rows of n variables
-  pub equation_behind : {n : ℕ} → n ≡ variable_count s → (k : ℕ) → k < equation_count s → equation_from s (equation_row_at n k) ≡ equation (job_of s) k
-  equation_behind e k h = ap (λ n. equation_from s (equation_row_at n k)) e ∙ sym (equation_of k h)
+  -- with numbers of rows that are those
+  pub variable_read : {n : ℕ} → n ≡ variable_count s → (i : ℕ) → i < n → variable (job_of s) i ≡ variable_at s i
+  variable_read n_is i h = variable_of i (omega (arith, h, n_is))
+
+  pub equation_read : {n m : ℕ} → n ≡ variable_count s → m ≡ equation_count s → (k : ℕ) → k < m → equation (job_of s) k ≡ equation_from s (equation_row_at n k)
+  equation_read n_is m_is k h = equation_of k (omega (arith, h, m_is)) ∙ ap (λ n. equation_from s (equation_row_at n k)) (sym n_is)

@@ -23,6 +23,7 @@ pub struct Amendments<'a> {
 
 impl Amendment {
     // The sheet in row t.
+    #[tactic(auto, using(crate::proofs::AmendmentsInForce::amendment_of))]
     fn read(amendments: &[u8], t: usize) -> Amendment
         requires { t < amendment_count amendments.now }
         ensures { result ≡ amendment (amendments_of amendments.now) t }

@@ -81,7 +81,7 @@ impl Job<'_> {
 
 impl Variable {
     // Do the bounds and the weight lie in their ranges?
-    pub(crate) fn in_range(self) -> bool
+    fn in_range(self) -> bool
         ensures { (result ≡ true) ↔ InRange self }
     {
         ints::is_within(1000000000, self.low)
@@ -108,14 +108,14 @@ impl Equation {
     }
 
     // Does it name a variable that is not below n?
-    pub(crate) fn is_misnamed(self, n: usize) -> bool
+    fn is_misnamed(self, n: usize) -> bool
         ensures { (result ≡ true) ↔ Misnamed n self }
     {
         n <= self.left || n <= self.right
     }
 
     // Are a, b and c within their limits?
-    pub(crate) fn in_limits(self) -> bool
+    fn in_limits(self) -> bool
         ensures { (result ≡ true) ↔ Coefficients self }
     {
         ints::is_within(1000000, self.a)
