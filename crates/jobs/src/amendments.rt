@@ -33,8 +33,8 @@ impl Amendment {
             serial: little_endian::u32_at(amendments, at),
             supersedes: little_endian::u32_at(amendments, at + 4),
             variable: usize::from(little_endian::u16_at(amendments, at + 8)),
-            low: i64::from(little_endian::i32_at(amendments, at + 12)),
-            high: i64::from(little_endian::i32_at(amendments, at + 16)),
+            low: little_endian::i32_at(amendments, at + 12),
+            high: little_endian::i32_at(amendments, at + 16),
         }
     }
 

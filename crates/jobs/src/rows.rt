@@ -24,9 +24,9 @@ impl Job<'_> {
     {
         let at = 24 + 12 * i;
         Variable {
-            low: i64::from(little_endian::i32_at(self.bytes, at)),
-            high: i64::from(little_endian::i32_at(self.bytes, at + 4)),
-            weight: i64::from(little_endian::i32_at(self.bytes, at + 8)),
+            low: little_endian::i32_at(self.bytes, at),
+            high: little_endian::i32_at(self.bytes, at + 4),
+            weight: little_endian::i32_at(self.bytes, at + 8),
         }
     }
 
@@ -39,8 +39,8 @@ impl Job<'_> {
         Equation {
             left: usize::from(little_endian::u16_at(self.bytes, at)),
             right: usize::from(little_endian::u16_at(self.bytes, at + 2)),
-            a: i64::from(little_endian::i32_at(self.bytes, at + 4)),
-            b: i64::from(little_endian::i32_at(self.bytes, at + 8)),
+            a: little_endian::i32_at(self.bytes, at + 4),
+            b: little_endian::i32_at(self.bytes, at + 8),
             c: little_endian::i64_at(self.bytes, at + 12),
         }
     }

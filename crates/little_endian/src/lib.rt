@@ -22,11 +22,11 @@ pub fn u32_at(s: &[u8], at: usize) -> u32
 }
 
 #[tactic(auto, unfolding(crate::specs::LittleEndian::unsigned))]
-pub fn i32_at(s: &[u8], at: usize) -> i32
+pub fn i32_at(s: &[u8], at: usize) -> i64
     requires { at + 4 ≤ length s.now }
     ensures { result ≡ i32 s.now at }
 {
-    i32::from_le_bytes([s[at], s[at + 1], s[at + 2], s[at + 3]])
+    i64::from(i32::from_le_bytes([s[at], s[at + 1], s[at + 2], s[at + 3]]))
 }
 
 #[tactic(auto, unfolding(crate::specs::LittleEndian::unsigned))]
