@@ -1,7 +1,8 @@
 -- Two functions that map a list to one list give the same at each of its members: a computation over a whole table holds at
 -- every entry. And two that agree on the members make one list of their parts.
 use mathlib.Core.Path.{◌≡◌, refl, sym, ◌∙◌, ap, ap₂}
-use mathlib.Core.List.{List, [], ◌∷◌, ◌++◌, map, flat_map, append_assoc, head-eq_of_cons-eq, tail-eq_of_cons-eq}
+use mathlib.Core.List.{List, [], ◌∷◌, ◌++◌, map, flat_map, head-eq_of_cons-eq, tail-eq_of_cons-eq}
+use Rattle.std.proofs.lemmas.Grind.{flat_map-append}
 use Rattle.lists.specs.Members.{◌∈◌, here, there}
 
 module _ {A B : Type 0} (f g : A → B) where
@@ -16,5 +17,4 @@ flat_map_same f g (x ∷ xs) e = ap₂ ◌++◌ (e x (here refl)) (flat_map_same
 
 pub flat_map_both : {A B : Type 0} (f : A → List B) (xs ys : List A) → flat_map f (xs ++ ys) ≡ flat_map f xs ++ flat_map f ys
 unfolding flat_map
-flat_map_both f [] ys = refl
-flat_map_both f (x ∷ xs) ys = ap (λ r. f x ++ r) (flat_map_both f xs ys) ∙ sym (append_assoc (f x) (flat_map f xs) (flat_map f ys))
+flat_map_both f xs ys = flat_map-append f xs ys
