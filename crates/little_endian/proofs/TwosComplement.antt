@@ -7,11 +7,15 @@ use Prim.Native.Nat.{ℕ, ◌+◌, ◌*◌, ◌-◌, ◌^◌, ◌≤◌, ◌<◌
 use lib.Dec.{ltb}
 use lib.ListN.{length}
 use borrow.Author.Tests.{lt-ltb, le-ltb}
+use mir.Syntax.{w64}
+use mir.Val.{SFits}
+use mir.Facts.{to_z-of_z}
 use Rattle.ints.specs.Within.{Within}
 use Rattle.ints.specs.Floor.{floor_mod}
 use Rattle.ints.proofs.{ℤ, pos, neg_ℤ, nat_abs, ◌+ℤ◌, ◌-ℤ◌, ◌*ℤ◌, ◌≤ℤ◌, ◌<ℤ◌, [], ◌∷◌, arith, le_or_lt, lin, ◌&◌, facts}
 use Rattle.ints.proofs.Order.{abs_nonneg, abs_nonpos}
 use Rattle.ints.proofs.Residues.{residue_below, residue_whole}
+use Rattle.ints.proofs.Signed.{held}
 use Rattle.little_endian.specs.LittleEndian.{unsigned, twos_complement, bytes_of, signed_bytes}
 use Rattle.little_endian.proofs.LittleEndian.{unsigned-bytes_of, length-bytes_of}
 
@@ -82,6 +86,15 @@ signed_back k x h =
 -- and so does a field that holds them
 pub signed_field : (k : ℕ) {u : ℕ} (x : ℤ) → u ≡ unsigned k (signed_bytes k x) 0 → FitsBytes k x → twos_complement k u ≡ x
 signed_field k x e h = ap (twos_complement k) e ∙ signed_back k x h
+
+-- r is what x says in two's complement, at the width that holds numbers up to most
+pub record Residue (most : ℕ) (x : ℤ) (r : ℕ) : Type 0 where
+  pub same : (k : ℕ) → most + 1 ≡ 256 ^ k → r ≡ nat_abs (floor_mod x (pos (256 ^ k)))
+
+-- and its bytes are those of a number that a local holds
+pub signed_bytes_lem : (k most : ℕ) {x : ℤ} (r : ℕ) → most + 1 ≡ 256 ^ k → SFits w64 x → Residue most (held x) r → bytes_of k r ≡ signed_bytes k x
+unfolding signed_bytes
+signed_bytes_lem k most r e f h = ap (bytes_of k) (h.same k e ∙ ap (λ x. nat_abs (floor_mod x (pos (256 ^ k)))) (to_z-of_z f))
 
 pub length-signed_bytes : (k : ℕ) (x : ℤ) → length (signed_bytes k x) ≡ k
 unfolding signed_bytes
