@@ -44,6 +44,10 @@ module _ (g : ℕ → ℕ) where
   pub leads_no : (i : ℕ) → g i ≢ i → leads_by g (i + 1) ≡ leads_by g i
   leads_no i d = next i ∙ ap (λ r. leads_by g i ++ r) (one_no leads i (ne_eqb (g i) i d)) ∙ append-nil (leads_by g i)
 
+  -- how many there are, with one variable more
+  pub leads_counted : (i : ℕ) → ((g i ≡ i) → length (leads_by g (i + 1)) ≡ length (leads_by g i) + 1) × ((g i ≢ i) → length (leads_by g (i + 1)) ≡ length (leads_by g i))
+  leads_counted i = (λ e. ap length (leads_yes i e) ∙ length-append (leads_by g i) (i ∷ []), λ d. ap length (leads_no i d))
+
   pub leads_below : (i z : ℕ) → z ∈ leads_by g i → z < i
   unfolding leads_by
   leads_below i z m = (in-up_to i z).0 ((in-keep leads (up_to i) z).0 m).0

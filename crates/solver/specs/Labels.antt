@@ -1,5 +1,5 @@
 -- Components in the program: a list of labels, the lowest variable of each variable's component.
-use Rattle.std.specs.Prelude.{◌≡◌, List, ℕ, ◌≤◌, ◌<◌}
+use Rattle.std.specs.Prelude.{◌≡◌, ◌≢◌, List, ℕ, ◌≤◌, ◌<◌}
 use Rattle.lists.specs.Table.{Tabulates}
 use Rattle.jobs.specs.Job.{Job}
 use Rattle.jobs.specs.Component.{merged, lowest_by}
@@ -17,6 +17,13 @@ pub record Labelled (labels : List ℕ) (n : ℕ) : Type 0 where
 pub record Lowest (labels : List ℕ) (n : ℕ) : Type 0 where
   pub low : (i : ℕ) → i < n → label_in labels i ≤ i
   pub self : (i : ℕ) → i < n → label_in labels (label_in labels i) ≡ label_in labels i
+
+-- those labelled `high` that lie from it on, before `end`, have taken the label `low`
+pub record Renames (old : List ℕ) (low high end : ℕ) (new : List ℕ) : Type 0 where
+  pub renamed : (i : ℕ) → high ≤ i → i < end → label_in old i ≡ high → label_in new i ≡ low
+  pub kept : (i : ℕ) → high ≤ i → i < end → label_in old i ≢ high → label_in new i ≡ label_in old i
+  pub before : (i : ℕ) → i < high → label_in new i ≡ label_in old i
+  pub behind : (i : ℕ) → end ≤ i → label_in new i ≡ label_in old i
 
 -- the components l and r have become one
 abbrev pub Merges : List ℕ → ℕ → ℕ → ℕ → List ℕ → Type 0

@@ -1,125 +1,115 @@
 //! Components, each named by its lowest variable.
 
-ghost use Rattle.std.specs.Prelude.{◌≡◌, not, ◌≤◌, ◌<◌, min, max, eqb, length};
+ghost use Rattle.std.specs.Prelude.{◌≡◌, ◌≤◌, ◌<◌, ◌+◌, length};
 ghost use Rattle.lists.specs.Table.{Tabulates};
-ghost use Rattle.solver.specs.Labels.{Apart, Lowest, Merges};
-ghost use Rattle.solver.specs.Spans.{Leads, Between, Spans};
+ghost use Rattle.solver.specs.Labels.{Apart, Lowest, Merges, Renames};
+ghost use Rattle.solver.specs.Spans.{Leads, Spans};
 ghost use Rattle.solver.specs.StateArrays.{label_in};
 ghost use Rattle.families.specs.ModelFindings.{leads_by, component_by};
 
-// Does an equation between variables of these components join two sets that earlier rows left separate?
-pub(crate) fn joins(left: u16, right: u16) -> bool
-    ensures { result ≡ not (eqb left right) }
-{
-    left != right
+/// The components of so many variables, while equations are taken in: each variable is labelled with the lowest of its component, and
+/// the variables of a component lie from there to the one that `lasts` has at the lowest.
+#[derive(Clone, Copy)]
+pub(crate) struct Components {
+    pub variables: usize,
+    pub labels: [u16; 256],
+    pub lasts: [u16; 256],
+    ghost few: { variables ≤ 256 },
+    ghost lowest: { Lowest labels variables },
+    ghost spans: { Spans labels lasts variables },
 }
 
-// The lower of two lowest variables: that of both components together.
-pub(crate) fn lower(l: u16, r: u16) -> u16
-    ensures { result ≡ min l r }
-{
-    if l < r { l } else { r }
-}
-
-// The higher of two variables.
-fn higher(l: u16, r: u16) -> u16
-    ensures { result ≡ max l r }
-{
-    if l < r { r } else { l }
-}
-
-// Each variable in a component of its own.
-pub(crate) fn apart() -> [u16; 256]
-    ensures { Apart result }
-{
-    let mut labels: [u16; 256] = [0; 256];
-    let mut i: usize = 0;
-    while i < 256 {
-        labels[i] = i as u16;
-        i += 1;
+impl Components {
+    // Each variable in a component of its own.
+    pub(crate) fn apart(variables: usize) -> Components
+        requires { variables ≤ 256 }
+        ensures so_many { result.variables ≡ variables }
+        ensures apart { Apart result.labels }
+    {
+        let mut labels = [0; 256];
+        for i in 0..256 {
+            labels[i] = i as u16;
+        }
+        Components {
+            variables,
+            labels,
+            lasts: labels,
+        }
     }
-    labels
-}
 
-// The components l and r as one, among n variables; where they are one already, nothing changes. The variables of a component lie from
-// its lowest to the one that `lasts` has at the lowest.
-pub(crate) fn join(labels: &mut [u16], lasts: &mut [u16], l: u16, r: u16, n: usize)
-    requires n_bound { n ≤ 256 }
-    requires labels_len { length labels.old ≡ 256 }
-    requires lasts_len { length lasts.old ≡ 256 }
-    requires spans { Spans labels.old lasts.old n }
-    requires leads { Leads labels.old n l }
-    requires leads_2 { Leads labels.old n r }
-    ensures merges { Merges labels.old l r n labels.new }
-    ensures spans_2 { Spans labels.new lasts.new n }
-{
-    if joins(l, r) {
-        take_up(labels, lasts, lower(l, r), higher(l, r), n);
+    // The lowest variable of the component of this one.
+    pub(crate) fn label(&self, variable: usize) -> u16
+        requires { variable < self.now.variables }
+        ensures value { result ≡ label_in self.now.labels variable }
+        ensures leads { Leads self.now.labels self.now.variables result }
+    {
+        self.labels[variable]
     }
-}
 
-// The component of `high`, taken up by that of `low`.
-fn take_up(labels: &mut [u16], lasts: &mut [u16], low: u16, high: u16, n: usize)
-    requires n_bound { n ≤ 256 }
-    requires labels_len { length labels.old ≡ 256 }
-    requires lasts_len { length lasts.old ≡ 256 }
-    requires spans { Spans labels.old lasts.old n }
-    requires leads { Leads labels.old n low }
-    requires leads_2 { Leads labels.old n high }
-    requires low_lt_high { low < high }
-    ensures merges { Merges labels.old low high n labels.new }
-    ensures spans_2 { Spans labels.new lasts.new n }
-{
-    let last = lasts[high as usize];
-    rename(labels, low, high, last as usize + 1, n);
-    lasts[low as usize] = higher(lasts[low as usize], last);
+    // The components l and r as one; where they are one already, nothing changes.
+    pub(crate) fn join(&mut self, l: u16, r: u16)
+        requires left { Leads self.old.labels self.old.variables l }
+        requires right { Leads self.old.labels self.old.variables r }
+        ensures merges { Merges self.old.labels l r self.old.variables self.new.labels }
+        ensures as_many { self.new.variables ≡ self.old.variables }
+    {
+        if l != r {
+            self.take_up(l.min(r), l.max(r));
+        }
+    }
+
+    // The component of `high`, taken up by that of `low`.
+    fn take_up(&mut self, low: u16, high: u16)
+        requires lower { Leads self.old.labels self.old.variables low }
+        requires higher { Leads self.old.labels self.old.variables high }
+        requires order { low < high }
+        ensures merges { Merges self.old.labels low high self.old.variables self.new.labels }
+        ensures as_many { self.new.variables ≡ self.old.variables }
+    {
+        let last = self.lasts[high as usize];
+        rename(&mut self.labels, low, high, last as usize + 1);
+        self.lasts[low as usize] = self.lasts[low as usize].max(last);
+    }
 }
 
 // Those labelled with the higher take the lower: they lie from it on, before `end`. Every label on the way is written, changed or not, so
 // that no branch depends on it.
-fn rename(labels: &mut [u16], low: u16, high: u16, end: usize, n: usize)
-    requires n_bound { n ≤ 256 }
-    requires labels_len { length labels.old ≡ 256 }
-    requires low_lt_high { low < high }
-    requires high_lt_end { high < end }
-    requires end_le_n { end ≤ n }
-    requires between { Between labels.old n high end }
-    ensures { Merges labels.old low high n labels.new }
+fn rename(labels: &mut [u16; 256], low: u16, high: u16, end: usize)
+    requires order { high ≤ end }
+    requires inside { end ≤ 256 }
+    ensures { Renames labels.old low high end labels.new }
 {
-    let mut i: usize = high as usize;
-    while i < end {
+    for i in high as usize..end {
         let label = labels[i];
         labels[i] = if label == high { low } else { label };
-        i += 1;
     }
 }
 
 /// How many components n variables are in: 01's g.
+#[tactic(auto, using(crate::proofs::LowestVariables::leads_none, crate::proofs::LowestVariables::leads_counted))]
 pub fn count(labels: &[u16; 256], n: usize) -> usize
     requires { n ≤ 256 }
     ensures { result ≡ length (leads_by (label_in labels.now) n) }
 {
-    let mut g: usize = 0;
-    let mut v: usize = 0;
-    while v < n {
+    let mut g = 0;
+    for v in 0..n {
         if labels[v] as usize == v {
             g += 1;
         }
-        v += 1;
     }
     g
 }
 
 /// The number of the component of each of n variables: they are numbered in the order of their lowest variables.
+#[tactic(auto, using(crate::proofs::LowestVariables::leads_none))]
 pub fn numbers(labels: &[u16; 256], n: usize) -> [u16; 256]
     requires n_bound { n ≤ 256 }
     requires lowest { Lowest labels.now n }
     ensures { Tabulates 0 (component_by (label_in labels.now) n) n result }
 {
-    let mut numbers: [u16; 256] = [0; 256];
-    let mut next: u16 = 0;
-    let mut i: usize = 0;
-    while i < n {
+    let mut numbers = [0; 256];
+    let mut next = 0;
+    for i in 0..n {
         let l = labels[i] as usize;
         if l == i {
             numbers[i] = next;
@@ -127,7 +117,6 @@ pub fn numbers(labels: &[u16; 256], n: usize) -> [u16; 256]
         } else {
             numbers[i] = numbers[l];
         }
-        i += 1;
     }
     numbers
 }

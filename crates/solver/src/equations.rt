@@ -11,9 +11,10 @@ ghost use Rattle.jobs.specs.Bounds.{with_bounds, BoundedBy};
 ghost use Rattle.solver.specs.Widths.{Combinable};
 ghost use Rattle.solver.specs.Steps.{kept_by};
 
+use crate::components::Components;
 use crate::cycle::Remains;
 use crate::join::Indices;
-use crate::{State, components, cycle, fields, join, range, reduce};
+use crate::{State, cycle, fields, join, range, reduce};
 use jobs::{Bounds, Equation};
 use runs::Run;
 
@@ -32,8 +33,7 @@ pub fn families(job: &[u8], bounds: &[Bounds; 256], n: usize, m: usize, state: &
     requires bounded_by { BoundedBy bounds.now n }
     ensures { Families (with_bounds (job_of job.now) bounds.now) state.new }
 {
-    let mut labels = components::apart();
-    let mut lasts = components::apart();
+    let mut components = Components::apart(n);
     // the runs field by field; how many one has stands at the lowest variable of its component
     let mut firsts: [i64; 256] = [0; 256];
     let mut steps: [i64; 256] = [0; 256];
@@ -44,8 +44,8 @@ pub fn families(job: &[u8], bounds: &[Bounds; 256], n: usize, m: usize, state: &
         let e = Equation::read(job, n, k).normal();
         let left = e.left;
         let right = e.right;
-        let l = labels[left];
-        let r = labels[right];
+        let l = components.label(left);
+        let r = components.label(right);
         let x = manys[l as usize];
         let y = manys[r as usize];
         let p = Run {
@@ -62,16 +62,23 @@ pub fn families(job: &[u8], bounds: &[Bounds; 256], n: usize, m: usize, state: &
         match kept {
             Kept::All => {}
             Kept::At(i) => {
-                reduce::both(&labels, &lasts, &mut firsts, &mut steps, l, r, i, x, y, n);
-                components::join(&mut labels, &mut lasts, l, r, n);
+                reduce::both(&components, &mut firsts, &mut steps, l, r, i, x, y);
+                components.join(l, r);
                 let many = i.left.many;
-                manys[components::lower(l, r) as usize] = many;
+                manys[l.min(r) as usize] = many;
             }
         }
         k += 1;
     }
-    state.labels = labels;
-    fields::gather(&labels, &firsts, &steps, &manys, &mut state.runs, n);
+    state.labels = components.labels;
+    fields::gather(
+        &components.labels,
+        &firsts,
+        &steps,
+        &manys,
+        &mut state.runs,
+        n,
+    );
 }
 
 // What an equation between variables of the components l and r, which have the runs p and q, leaves of their families.
@@ -82,7 +89,7 @@ fn leaves(e: runs::Equation, l: u16, r: u16, p: Run, q: Run) -> Kept
     requires family_run_2 { FamilyRun q }
     ensures { kept_by result ≡ kept e l r p q }
 {
-    if components::joins(l, r) {
+    if l != r {
         return Kept::At(join::between(e, p, q, l < r));
     }
     let remains = cycle::inside(e, p, q);

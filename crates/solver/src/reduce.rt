@@ -4,14 +4,14 @@ ghost use Rattle.std.specs.Prelude.{◌≡◌, true};
 ghost use Rattle.solver.specs.Spans.{Leads};
 ghost use Rattle.solver.specs.Steps.{Arrays, Stays, Reducible, Reduces, BothReducible, BothReduce};
 
+use crate::components::Components;
 use crate::join::Indices;
-use crate::{components, parts};
+use crate::parts;
 use runs::Run;
 
 // Of the families of the components l and r, which have x and y members, those at their indices stay.
 pub(crate) fn both(
-    labels: &[u16],
-    lasts: &[u16],
+    components: &Components,
     firsts: &mut [i64],
     steps: &mut [i64],
     l: u16,
@@ -19,38 +19,28 @@ pub(crate) fn both(
     kept: Indices,
     x: u32,
     y: u32,
-    n: usize,
 )
-    requires arrays { Arrays labels.now lasts.now firsts.old steps.old n }
-    requires leads { Leads labels.now n l }
-    requires leads_2 { Leads labels.now n r }
-    requires both_reducible { BothReducible labels.now firsts.old steps.old l r kept x y n }
-    ensures { BothReduce labels.now firsts.old steps.old l r kept n firsts.new steps.new }
+    requires arrays { Arrays components.now.labels components.now.lasts firsts.old steps.old components.now.variables }
+    requires leads { Leads components.now.labels components.now.variables l }
+    requires leads_2 { Leads components.now.labels components.now.variables r }
+    requires both_reducible { BothReducible components.now.labels firsts.old steps.old l r kept x y components.now.variables }
+    ensures { BothReduce components.now.labels firsts.old steps.old l r kept components.now.variables firsts.new steps.new }
 {
-    one(labels, lasts, firsts, steps, l, kept.left, x, n);
-    if components::joins(l, r) {
-        one(labels, lasts, firsts, steps, r, kept.right, y, n);
+    one(components, firsts, steps, l, kept.left, x);
+    if l != r {
+        one(components, firsts, steps, r, kept.right, y);
     }
 }
 
 // Of one family, of so many members. Where they keep their places, there is nothing to be done.
-fn one(
-    labels: &[u16],
-    lasts: &[u16],
-    firsts: &mut [i64],
-    steps: &mut [i64],
-    g: u16,
-    kept: Run,
-    many: u32,
-    n: usize,
-)
-    requires arrays { Arrays labels.now lasts.now firsts.old steps.old n }
-    requires leads { Leads labels.now n g }
-    requires reducible { Reducible labels.now firsts.old steps.old g kept many n }
-    ensures { Reduces labels.now firsts.old steps.old g kept n firsts.new steps.new }
+fn one(components: &Components, firsts: &mut [i64], steps: &mut [i64], g: u16, kept: Run, many: u32)
+    requires arrays { Arrays components.now.labels components.now.lasts firsts.old steps.old components.now.variables }
+    requires leads { Leads components.now.labels components.now.variables g }
+    requires reducible { Reducible components.now.labels firsts.old steps.old g kept many components.now.variables }
+    ensures { Reduces components.now.labels firsts.old steps.old g kept components.now.variables firsts.new steps.new }
 {
     if !stay(kept, many) {
-        walk(labels, lasts, firsts, steps, g, kept, many, n);
+        walk(components, firsts, steps, g, kept, many);
     }
 }
 
@@ -75,24 +65,22 @@ fn stay(kept: Run, many: u32) -> bool
 
 // The numbers of each variable of the component g: they lie from it to its last.
 fn walk(
-    labels: &[u16],
-    lasts: &[u16],
+    components: &Components,
     firsts: &mut [i64],
     steps: &mut [i64],
     g: u16,
     kept: Run,
     many: u32,
-    n: usize,
 )
-    requires arrays { Arrays labels.now lasts.now firsts.old steps.old n }
-    requires leads { Leads labels.now n g }
-    requires reducible { Reducible labels.now firsts.old steps.old g kept many n }
-    ensures { Reduces labels.now firsts.old steps.old g kept n firsts.new steps.new }
+    requires arrays { Arrays components.now.labels components.now.lasts firsts.old steps.old components.now.variables }
+    requires leads { Leads components.now.labels components.now.variables g }
+    requires reducible { Reducible components.now.labels firsts.old steps.old g kept many components.now.variables }
+    ensures { Reduces components.now.labels firsts.old steps.old g kept components.now.variables firsts.new steps.new }
 {
-    let end = lasts[g as usize] as usize + 1;
+    let end = components.lasts[g as usize] as usize + 1;
     let mut i: usize = g as usize;
     while i < end {
-        if labels[i] == g {
+        if components.labels[i] == g {
             let run = Run {
                 first: firsts[i],
                 step: steps[i],

@@ -6,7 +6,7 @@ ghost use Rattle.jobs.specs.Lawful.{Lawful};
 ghost use Rattle.jobs.specs.Structure.{kind_by};
 ghost use Rattle.solver.specs.Structured.{Structured, added};
 
-use crate::components;
+use crate::components::Components;
 use jobs::Equation;
 
 /// What the pass finds: of each variable its label, the lowest variable of its component, and how many equations name it; of each
@@ -26,8 +26,7 @@ pub fn of_job(job: &[u8], n: usize, m: usize, found: &mut Structure)
     requires m_value { m ≡ equation_count job.now }
     ensures { Structured (job_of job.now) m n found.new }
 {
-    let mut labels = components::apart();
-    let mut lasts = components::apart();
+    let mut components = Components::apart(n);
     found.degrees = [0; 256];
     let mut k: usize = 0;
     while k < m {
@@ -36,18 +35,18 @@ pub fn of_job(job: &[u8], n: usize, m: usize, found: &mut Structure)
         let row = e.normal();
         let home = row.left;
         let other = row.right;
-        let l = labels[home];
-        let r = labels[other];
+        let l = components.label(home);
+        let r = components.label(other);
         found.kinds[k] = kind(binary, l, r);
         found.homes[k] = home as u16;
         let left = e.left;
         let right = e.right;
         found.degrees[left] = found.degrees[left] + 1;
         found.degrees[right] = found.degrees[right] + added(left, right);
-        components::join(&mut labels, &mut lasts, l, r, n);
+        components.join(l, r);
         k += 1;
     }
-    found.labels = labels;
+    found.labels = components.labels;
 }
 
 // The kind of an equation between variables of these components, by document 02: 1 if it joins them, else 2; and 3 if it joins no two
@@ -58,7 +57,7 @@ fn kind(binary: bool, l: u16, r: u16) -> u16
     if !binary {
         return 3;
     }
-    if components::joins(l, r) { 1 } else { 2 }
+    if l != r { 1 } else { 2 }
 }
 
 // What an equation adds to its right variable's number, when it has added one to its left one's: one that names a variable twice adds one.

@@ -1,19 +1,10 @@
--- `count` meets its contract: what is counted and what is left to count are together all the components.
+-- `count` meets its contract: so many of the variables before v are lowest ones.
 use mathlib.Core.Path.{◌≡◌}
-use mathlib.Core.Bool.{Bool}
-use mathlib.Core.List.{List}
-use Prim.Native.Nat.{ℕ, ◌+◌, ◌-◌, ◌≤◌}
-use lib.Dec.{eqb}
-use lib.ListN.{get_or}
-use Rattle.lists.proofs.Counting.{left}
+use lib.ListN.{length}
+use Prim.Native.Nat.{◌≤◌}
+use Rattle.families.specs.ModelFindings.{leads_by}
+use Rattle.solver.specs.StateArrays.{label_in}
 use Rattle.solver.proofs.components.count.Given as goal
 
--- is it the lowest of its component?
-abbrev pub leads : List ℕ → ℕ → Bool
-leads labels i = eqb (get_or labels i 0) i
-
 abbrev pub invariant-loop-v : goal.invariant-loop-v
-invariant-loop-v l = (l.v ≤ l.n) × ((l.g ≤ l.v) × (l.g + left (leads l.labels) l.n l.v ≡ left (leads l.labels) l.n 0))
-
-abbrev pub decreases-loop-v : goal.decreases-loop-v
-decreases-loop-v l = l.n - l.v
+invariant-loop-v l = (l.g ≡ length (leads_by (label_in l.labels) l.v)) × (l.g ≤ l.v)

@@ -4,13 +4,12 @@ use mathlib.Core.Logic.{◌≢◌}
 use mathlib.Core.List.{List, [], ◌∷◌}
 use Prim.Native.Nat.{ℕ, ◌+◌, ◌≤◌, ◌<◌}
 use native.Mathlib.Omega.{arith}
-use borrow.Author.Rules.{rules}
 use lib.ListN.{length, get_or, set, length-append}
 use Rattle.families.specs.ModelFindings.{leads_by, component_by}
 use Rattle.solver.specs.StateArrays.{label_in}
 use Rattle.solver.specs.Labels.{Lowest}
-use Rattle.lists.proofs.ArrayPass.{Filled, unfilled, filled}
-use Rattle.solver.proofs.LowestVariables.{leads_none, leads_yes, leads_no, leads_length, component_lead, component_same}
+use Rattle.lists.proofs.ArrayPass.{Filled, filled}
+use Rattle.solver.proofs.LowestVariables.{leads_yes, leads_no, leads_length, component_lead, component_same}
 use Rattle.solver.proofs.components.numbers.Goals.{else-l-i, then-l-i}
 use Rattle.solver.proofs.components.numbers.Goals as goal
 
@@ -34,28 +33,19 @@ module _ (labels : List ℕ) (n i : ℕ) (numbers : List ℕ) (next : ℕ) (smal
       filled 0 (component_by g n) i numbers f (get_or numbers (g i) 0) (omega arith)
       (f.done (g i) (omega (arith, w.low i h, d)) ∙ component_same g n (g i) i (w.self i h))
 
-pub loop-i-init : goal.loop-i-init
-loop-i-init c = (omega arith, (sym (ap length (leads_none (label_in c.args.labels.now))), unfilled 0 (component_by (label_in c.args.labels.now) c.args.n) _ (search rules)))
-
 pub overflow_add-next : goal.overflow_add-next
-overflow_add-next c = let l = c.loop-i in omega (arith, l.invariant.1.0, leads_length (label_in c.args.labels.now) l.i)
+overflow_add-next c = let l = c.loop-i in omega (arith, l.invariant.0, leads_length (label_in c.args.labels.now) l.i)
 
 pub loop-i-preserved : goal.loop-i-preserved
 loop-i-preserved c = let l = c.loop-i in
     let F = Filled 256 0 (component_by (label_in c.args.labels.now) c.args.n) (l.i + 1) in
     elim c.if-l-i.branch [
       | then-l-i w ↦ (
-        omega arith,
-        (
-          w.next-is ∙ lead_next c.args.labels.now c.args.n l.i l.numbers l.next c.requires.n_bound (omega arith) c.requires.lowest l.invariant.1.0 l.invariant.1.1 w.if-l-i.true,
-          subst F (sym w.numbers-is) (lead_Filled c.args.labels.now c.args.n l.i l.numbers l.next c.requires.n_bound (omega arith) c.requires.lowest l.invariant.1.0 l.invariant.1.1 w.if-l-i.true),
-        ),
+        w.next-is ∙ lead_next c.args.labels.now c.args.n l.i l.numbers l.next c.requires.n_bound (omega arith) c.requires.lowest l.invariant.0 l.invariant.1 w.if-l-i.true,
+        subst F (sym w.numbers-is) (lead_Filled c.args.labels.now c.args.n l.i l.numbers l.next c.requires.n_bound (omega arith) c.requires.lowest l.invariant.0 l.invariant.1 w.if-l-i.true),
       )
       | else-l-i w ↦ (
-        omega arith,
-        (
-          w.next-is ∙ other_next c.args.labels.now c.args.n l.i l.numbers l.next c.requires.n_bound (omega arith) c.requires.lowest l.invariant.1.0 l.invariant.1.1 w.if-l-i.false,
-          subst F (sym w.numbers-is) (other_Filled c.args.labels.now c.args.n l.i l.numbers l.next c.requires.n_bound (omega arith) c.requires.lowest l.invariant.1.0 l.invariant.1.1 w.if-l-i.false),
-        ),
+        w.next-is ∙ other_next c.args.labels.now c.args.n l.i l.numbers l.next c.requires.n_bound (omega arith) c.requires.lowest l.invariant.0 l.invariant.1 w.if-l-i.false,
+        subst F (sym w.numbers-is) (other_Filled c.args.labels.now c.args.n l.i l.numbers l.next c.requires.n_bound (omega arith) c.requires.lowest l.invariant.0 l.invariant.1 w.if-l-i.false),
       )
     ]
