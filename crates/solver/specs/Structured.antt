@@ -1,11 +1,22 @@
 -- What is promised of the pass over the equations.
-use Rattle.std.specs.Prelude.{cond, ℕ, eqb}
+use Rattle.std.specs.Prelude.{◌≡◌, cond, List, ℕ, ◌<◌, eqb, get_or}
 use Rattle.lists.specs.Table.{Tabulates}
 use Rattle.jobs.specs.Job.{Job, equation}
 use Rattle.jobs.specs.NormalForm.{home}
 use Rattle.jobs.specs.Structure.{degree_by, kind}
 use Rattle.solver.specs.Labels.{Labels}
+use Rattle.solver.specs.declared.structure.Kind.{Kind}
+use Rattle.solver.specs.declared.structure.Kind.TheVariants.{Joins, Ring, Fixes}
 use Rattle.solver.specs.declared.structure.Structure.{Structure}
+
+-- the number of a kind in the map
+abbrev pub number_of : Kind → ℕ
+number_of Joins = 1
+number_of Ring = 2
+number_of Fixes = 3
+
+abbrev pub kind_in : List Kind → ℕ → ℕ
+kind_in kinds k = number_of (get_or kinds k Joins)
 
 -- after the first m equations of the job: the labels of n variables, and how many equations name each; and of each equation its home
 -- and its kind
@@ -13,7 +24,7 @@ pub record Structured (j : Job) (m n : ℕ) (t : Structure) : Type 0 where
   pub labels : Labels j m n t.labels
   pub degrees : Tabulates 0 (degree_by j m) n t.degrees
   pub homes : Tabulates 0 (λ k. home (equation j k)) m t.homes
-  pub kinds : Tabulates 0 (kind j) m t.kinds
+  pub kinds : (k : ℕ) → k < m → kind_in t.kinds k ≡ kind j k
 
 -- what an equation adds to its right variable's number, when it has added one to its left one's
 abbrev pub added : ℕ → ℕ → ℕ

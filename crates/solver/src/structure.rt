@@ -4,10 +4,36 @@ ghost use Rattle.std.specs.Prelude.{◌≡◌};
 ghost use Rattle.jobs.specs.Job.{job_of, variable_count, equation_count};
 ghost use Rattle.jobs.specs.Lawful.{Lawful};
 ghost use Rattle.jobs.specs.Structure.{kind_by};
-ghost use Rattle.solver.specs.Structured.{Structured, added};
+ghost use Rattle.solver.specs.Structured.{number_of, Structured, added};
 
 use crate::components::Components;
 use jobs::Equation;
+
+/// The kind of an equation, by the numbers that the map has for them.
+#[derive(Clone, Copy)]
+pub enum Kind {
+    /// It joins two components that the equations before it left apart.
+    Joins = 1,
+    /// Its two variables are in one component already.
+    Ring = 2,
+    /// It joins no two variables at all, and can but fix the number of one.
+    Fixes = 3,
+}
+
+impl Kind {
+    // The kind of an equation between variables of these components.
+    fn of(binary: bool, l: u16, r: u16) -> Kind
+        ensures { number_of result ≡ kind_by binary l r }
+    {
+        if !binary {
+            Kind::Fixes
+        } else if l != r {
+            Kind::Joins
+        } else {
+            Kind::Ring
+        }
+    }
+}
 
 /// What the pass finds: of each variable its label, the lowest variable of its component, and how many equations name it; of each
 /// equation its home, the variable whose component is its own, and its kind.
@@ -16,7 +42,7 @@ pub struct Structure {
     pub labels: [u16; 256],
     pub degrees: [u16; 256],
     pub homes: [u16; 1024],
-    pub kinds: [u16; 1024],
+    pub kinds: [Kind; 1024],
 }
 
 /// The structure of a job with n variables and m equations, put in `found`, whatever that has.
@@ -28,36 +54,18 @@ pub fn of_job(job: &[u8], n: usize, m: usize, found: &mut Structure)
 {
     let mut components = Components::apart(n);
     found.degrees = [0; 256];
-    let mut k: usize = 0;
-    while k < m {
+    for k in 0..m {
         let e = Equation::read(job, n, k);
-        let binary = e.is_binary();
         let row = e.normal();
-        let home = row.left;
-        let other = row.right;
-        let l = components.label(home);
-        let r = components.label(other);
-        found.kinds[k] = kind(binary, l, r);
-        found.homes[k] = home as u16;
-        let left = e.left;
-        let right = e.right;
-        found.degrees[left] = found.degrees[left] + 1;
-        found.degrees[right] = found.degrees[right] + added(left, right);
+        let l = components.label(row.left);
+        let r = components.label(row.right);
+        found.kinds[k] = Kind::of(e.is_binary(), l, r);
+        found.homes[k] = row.left as u16;
+        found.degrees[e.left] += 1;
+        found.degrees[e.right] += added(e.left, e.right);
         components.join(l, r);
-        k += 1;
     }
     found.labels = components.labels;
-}
-
-// The kind of an equation between variables of these components, by document 02: 1 if it joins them, else 2; and 3 if it joins no two
-// variables at all.
-fn kind(binary: bool, l: u16, r: u16) -> u16
-    ensures { result ≡ kind_by binary l r }
-{
-    if !binary {
-        return 3;
-    }
-    if l != r { 1 } else { 2 }
 }
 
 // What an equation adds to its right variable's number, when it has added one to its left one's: one that names a variable twice adds one.
