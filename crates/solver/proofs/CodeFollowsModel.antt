@@ -36,17 +36,16 @@ use Rattle.solver.specs.declared.join.Indices.{Indices}
 use Rattle.solver.specs.Labels.{Labelled, Merges, Labels, Apart}
 use Rattle.solver.specs.Spans.{Leads}
 use Rattle.solver.specs.Widths.{Combinable}
-use Rattle.solver.specs.Fields.{run_by, gathered}
+use Rattle.solver.specs.StateArrays.{run_in}
+use Rattle.solver.specs.Runs.{gathered}
 use Rattle.solver.specs.Steps.{indices_by, Reducible, BothReducible, BothReduce}
+use Rattle.solver.proofs.SpannedLabels.{Leads-both}
+use Rattle.solver.proofs.ReducedRuns.{same_run}
 
 -- the arrays have at each variable what the model has after k equations
-pub record Follows (j : Job) (k : ℕ) (labels : List ℕ) (firsts steps : List ℤ) (manys : List ℕ) : Type 0 where
+pub record Follows (j : Job) (k : ℕ) (labels : List ℕ) (runs : List Run) : Type 0 where
   pub label : (i : ℕ) → i < length j.variables → get_or labels i 0 ≡ label_at (state_after j k) i
-  pub run : (i : ℕ) → i < length j.variables → gathered labels firsts steps manys i ≡ run_at (state_after j k) i
-
--- a run by its fields
-pub same_run : {r r' : Run} → r.first ≡ r'.first → r.step ≡ r'.step → r.many ≡ r'.many → r ≡ r'
-same_run p q m = λ t. record { first = p t; step = q t; many = m t }
+  pub run : (i : ℕ) → i < length j.variables → gathered labels runs i ≡ run_at (state_after j k) i
 
 -- ---- before any equation
 module _ (j : Job) (f : LawfulJob j) where
@@ -62,12 +61,11 @@ module _ (j : Job) (f : LawfulJob j) where
       let v = f.each_variable i h in
       ap (λ s. run_at s i) begins_start ∙ run_at-start_state j i h ∙ began_is (variable j i).low (variable j i).high v.low v.high
 
-  pub Follows-start : (labels : List ℕ) (firsts steps : List ℤ) (manys : List ℕ) (begun : ℕ → Run) → ((i : ℕ) → i < length j.variables → get_or labels i 0 ≡ i) →
-      ((i : ℕ) → i < length j.variables → begun i ≡ meet full (interval (variable j i).low (variable j i).high)) →
-      ((i : ℕ) → i < length j.variables → run_by firsts steps (get_or manys i 0) i ≡ begun i) → Follows j 0 labels firsts steps manys
-  Follows-start labels firsts steps manys begun g r p = record {
+  pub Follows-start : (labels : List ℕ) (runs : List Run) → ((i : ℕ) → i < length j.variables → get_or labels i 0 ≡ i) →
+      ((i : ℕ) → i < length j.variables → run_in runs i ≡ meet full (interval (variable j i).low (variable j i).high)) → Follows j 0 labels runs
+  Follows-start labels runs g p = record {
     label = λ i h. g i h ∙ sym (start_label i h);
-    run = λ i h. ap (λ l. run_by firsts steps (get_or manys l 0) i) (g i h) ∙ p i h ∙ r i h ∙ sym (start_run_lem i h);
+    run = λ i h. ap (λ l. record (run_in runs i) { many = (run_in runs l).many }) (g i h) ∙ p i h ∙ sym (start_run_lem i h);
   }
 
 -- ---- the model's step
@@ -83,37 +81,6 @@ next_of e s = refl
 same_change : (e : Equation) (s : State) {l l' r r' : ℕ} {P P' Q Q' : Run} → l' ≡ l → r' ≡ r → P' ≡ P → Q' ≡ Q →
     change l r (kept (form e) l r P Q) s ≡ change l' r' (kept (form e) l' r' P' Q') s
 same_change e s a b c d = sym (λ t. change (a t) (b t) (kept (form e) (a t) (b t) (c t) (d t)) s)
-
--- ---- parts of a run
-through_many : (r s : Run) → (through r s).many ≡ s.many
-through_many r s = go (ℕ_discrete s.many 0)
-  where
-    go : Dec (s.many ≡ 0) → (through r s).many ≡ s.many
-    go (yes e) = rw (eq-eqb s.many 0 e) (sym e)
-    go (no d) = rw (ne_eqb s.many 0 d) refl
-
--- how many a run has makes no difference to the numbers of its part
-module _ (l r : ℕ) (i : Pair) (firsts steps : List ℤ) (g many v : ℕ) where
-  abbrev without_many : Run
-  without_many = run_by firsts steps 0 v
-
-  abbrev with_many : Run
-  with_many = run_by firsts steps many v
-
-  after_numbers : Dec (g ≡ l) → Dec (g ≡ r) →
-      ((run_after l r i g without_many).first ≡ (run_after l r i g with_many).first) × ((run_after l r i g without_many).step ≡ (run_after l r i g with_many).step)
-  after_numbers (yes e) d =
-      (ap (λ r. r.first) (after_left l r i g without_many e) ∙ sym (ap (λ r. r.first) (after_left l r i g with_many e)), ap (λ r. r.step) (after_left l r i g without_many e) ∙ sym (ap (λ r. r.step) (after_left l r i g with_many e)))
-  after_numbers (no p) (yes e) =
-      (ap (λ r. r.first) (after_right l r i g without_many p e) ∙ sym (ap (λ r. r.first) (after_right l r i g with_many p e)), ap (λ r. r.step) (after_right l r i g without_many p e) ∙ sym (ap (λ r. r.step) (after_right l r i g with_many p e)))
-  after_numbers (no p) (no q) =
-      (ap (λ r. r.first) (after_other l r i g without_many p q) ∙ sym (ap (λ r. r.first) (after_other l r i g with_many p q)), ap (λ r. r.step) (after_other l r i g without_many p q) ∙ sym (ap (λ r. r.step) (after_other l r i g with_many p q)))
-
-  after_first : (run_after l r i g (run_by firsts steps 0 v)).first ≡ (run_after l r i g (run_by firsts steps many v)).first
-  after_first = (after_numbers (ℕ_discrete g l) (ℕ_discrete g r)).0
-
-  after_step : (run_after l r i g (run_by firsts steps 0 v)).step ≡ (run_after l r i g (run_by firsts steps many v)).step
-  after_step = (after_numbers (ℕ_discrete g l) (ℕ_discrete g r)).1
 
 -- inside one component the same indices stay on both sides
 ring_sides : (f : Form) (l r : ℕ) (P Q : Run) (i : Pair) → l ≡ r → some i ≡ kept f l r P Q → i.left ≡ i.right
@@ -161,14 +128,14 @@ normal_combines {e} f = normal_cases e (λ n. Combinable (form n)) (λ b. record
 
 -- ---- one equation more
 -- what is known at equation k of a lawful job with n variables, whose row in normal form is e
-pub record At (j : Job) (n k : ℕ) (labels : List ℕ) (firsts steps : List ℤ) (manys : List ℕ) (e : Equation) : Type 0 where
+pub record At (j : Job) (n k : ℕ) (labels : List ℕ) (runs : List Run) (e : Equation) : Type 0 where
   pub lawful : LawfulJob j
   pub all : length j.variables ≡ n
   pub below : k < length j.equations
-  pub follows : Follows j k labels firsts steps manys
+  pub follows : Follows j k labels runs
   pub row : e ≡ normal_row j k
 
-module _ {j : Job} {n k : ℕ} {labels : List ℕ} {firsts steps : List ℤ} {manys : List ℕ} {e : Equation} (a : At j n k labels firsts steps manys e) where
+module _ {j : Job} {n k : ℕ} {labels : List ℕ} {runs : List Run} {e : Equation} (a : At j n k labels runs e) where
   abbrev S : State
   S = state_after j k
 
@@ -179,7 +146,7 @@ module _ {j : Job} {n k : ℕ} {labels : List ℕ} {firsts steps : List ℤ} {ma
   r = get_or labels e.right 0
 
   abbrev seen : ℕ → Run
-  seen = gathered labels firsts steps manys
+  seen = gathered labels runs
 
   abbrev P : Run
   P = seen e.left
@@ -202,10 +169,10 @@ module _ {j : Job} {n k : ℕ} {labels : List ℕ} {firsts steps : List ℤ} {ma
   as_written : LawfulEquation n (equation j k)
   as_written = rw (← a.all) (a.lawful.each_equation k a.below)
 
-  left_below : e.left < n
+  pub left_below : e.left < n
   left_below = rw a.row (normal-left_below (equation j k) n as_written.left as_written.right)
 
-  right_below : e.right < n
+  pub right_below : e.right < n
   right_below = rw a.row (normal-right_below (equation j k) n as_written.left as_written.right)
 
   pub combinable : Combinable (form e)
@@ -217,10 +184,10 @@ module _ {j : Job} {n k : ℕ} {labels : List ℕ} {firsts steps : List ℤ} {ma
   family : (i : ℕ) → i < n → FamilyRun (seen i)
   family i h = subst FamilyRun (sym (run_is i h)) (known.invariant.form i (within h))
 
-  pub left_family : FamilyRun (gathered labels firsts steps manys e.left)
+  pub left_family : FamilyRun (gathered labels runs e.left)
   left_family = family e.left left_below
 
-  pub right_family : FamilyRun (gathered labels firsts steps manys e.right)
+  pub right_family : FamilyRun (gathered labels runs e.right)
   right_family = family e.right right_below
 
   labels_are : Labels j k n labels
@@ -242,7 +209,7 @@ module _ {j : Job} {n k : ℕ} {labels : List ℕ} {firsts steps : List ℤ} {ma
       ∙ same_change e S (label_is e.left left_below) (label_is e.right right_below) (run_is e.left left_below) (run_is e.right right_below)
       ∙ ap (λ x. change l r x S) (sym h)
 
-  pub Follows-same : none ≡ keeps → Follows j (suc k) labels firsts steps manys
+  pub Follows-same : none ≡ keeps → Follows j (suc k) labels runs
   Follows-same h =
       let same : state_after j (suc k) ≡ S = next_is none h ∙ change_none l r S in
       record { label = λ i b. a.follows.label i b ∙ ap (λ s. label_at s i) (sym same); run = λ i b. a.follows.run i b ∙ ap (λ s. run_at s i) (sym same) }
@@ -269,19 +236,13 @@ module _ {j : Job} {n k : ℕ} {labels : List ℕ} {firsts steps : List ℤ} {ma
     new_family v b = subst FamilyRun (model_run v b) ((invariant j a.lawful (suc k) a.below).form v (within b))
 
     -- one side of it
-    side : (g x : ℕ) (s : Run) → x ≡ get_or manys g 0 → ((v : ℕ) → get_or labels v 0 ≡ g → after v ≡ through (seen v) s) → Reducible labels firsts steps g s x n
-    side g x s m f = record {
-      before = λ v b e. subst FamilyRun (counted v e) (family v b);
-      after = λ v b e. subst FamilyRun (f v e ∙ ap (λ r. through r s) (counted v e)) (new_family v b);
-    }
-      where
-        counted : (v : ℕ) → get_or labels v 0 ≡ g → seen v ≡ run_by firsts steps x v
-        counted v e = ap (λ many. run_by firsts steps many v) (ap (λ g. get_or manys g 0) e ∙ sym m)
+    side : (g : ℕ) (s : Run) → ((v : ℕ) → get_or labels v 0 ≡ g → after v ≡ through (seen v) s) → Reducible labels runs g s n
+    side g s f = record { before = λ v b e. family v b; after = λ v b e. subst FamilyRun (f v e) (new_family v b) }
 
-    pub reducible : BothReducible labels firsts steps (get_or labels e.left 0) (get_or labels e.right 0) i (get_or manys (get_or labels e.left 0) 0) (get_or manys (get_or labels e.right 0) 0) n
+    pub reducible : BothReducible labels runs (get_or labels e.left 0) (get_or labels e.right 0) i n
     reducible = record {
-      left = side l (get_or manys l 0) i.left refl (λ v h. after_left l r (indices_by i) (get_or labels v 0) (seen v) h);
-      right = side r (get_or manys r 0) i.right refl (λ v h. at_right v h (ℕ_discrete l r));
+      left = side l i.left (λ v h. after_left l r (indices_by i) (get_or labels v 0) (seen v) h);
+      right = side r i.right (λ v h. at_right v h (ℕ_discrete l r));
     }
       where
         one_side : l ≡ r → i.left ≡ i.right
@@ -291,50 +252,39 @@ module _ {j : Job} {n k : ℕ} {labels : List ℕ} {firsts steps : List ℤ} {ma
         at_right v h (yes z) = after_left l r (indices_by i) (get_or labels v 0) (seen v) (h ∙ sym z) ∙ ap (through (seen v)) (one_side z)
         at_right v h (no z) = after_right l r (indices_by i) (get_or labels v 0) (seen v) (λ q. z (sym q ∙ h)) h
 
-    -- how many there are then
-    module _ (labels' : List ℕ) (m : Merges labels (get_or labels e.left 0) (get_or labels e.right 0) n labels') where
-      new_label_lem : (v : ℕ) → v < n → get_or labels' v 0 ≡ lowest_by j (suc k) v
-      new_label_lem v b = m.at v b ∙ sym (model_label v b) ∙ (invariant j a.lawful (suc k) a.below).labels v (within b)
+    -- the two components as one
+    module _ (labels' : List ℕ) (m : Merges labels (get_or labels e.left 0) (get_or labels e.right 0) n labels') (runs' : List Run)
+        (q : BothReduce labels runs (get_or labels e.left 0) (get_or labels e.right 0) i n runs') where
+      run_then : (v : ℕ) → v < n → gathered labels runs' v ≡ run_at (state_after j (suc k)) v
+      run_then v b = q.at v b ∙ sym (model_run v b)
 
-      many_of : (v : ℕ) → v < n → get_or labels' v 0 ≡ min l r → (run_at (state_after j (suc k)) v).many ≡ i.left.many
-      many_of v b z =
+      label_then : (v : ℕ) → v < n → get_or labels' v 0 ≡ label_at (state_after j (suc k)) v
+      label_then v b = m.at v b ∙ sym (model_label v b)
+
+      -- a variable's label is then the lowest of its component, and was the lowest of one before
+      led : (v : ℕ) → v < n → Merged l r (get_or labels v 0) → Leads labels n (get_or labels' v 0)
+      led v b (first x z) = subst (Leads labels n) (sym (m.at v b ∙ z)) (Leads-both labels n l r left_Leads right_Leads).0
+      led v b (second x z) = subst (Leads labels n) (sym (m.at v b ∙ z)) (Leads-both labels n l r left_Leads right_Leads).0
+      led v b (other x y z) = subst (Leads labels n) (sym (m.at v b ∙ z)) (labels_lead j k labels n labels_are v b)
+
+      -- how many there are, there
+      many_then : (v : ℕ) → v < n → Leads labels n (get_or labels' v 0) → (run_in runs' (get_or labels' v 0)).many ≡ (run_at (state_after j (suc k)) v).many
+      many_then v b w =
           let inv = invariant j a.lawful (suc k) a.below in
-          let left-new : get_or labels' e.left 0 ≡ min l r = m.at e.left left_below ∙ merged_one l r l (inl refl) in
-          let same : lowest_by j (suc k) v ≡ lowest_by j (suc k) e.left = sym (new_label_lem v b) ∙ z ∙ sym left-new ∙ new_label_lem e.left left_below in
-          inv.many v (within b) ∙ ap (λ g. (run_at (state_after j (suc k)) g).many) same ∙ sym (inv.many e.left (within left_below))
-          ∙ ap (λ r. r.many) (model_run e.left left_below ∙ after_left l r (indices_by i) l P refl) ∙ through_many P i.left
+          let g : ℕ = get_or labels' v 0 in
+          let is : g ≡ lowest_by j (suc k) v = label_then v b ∙ inv.labels v (within b) in
+          ap (λ u. (run_in runs' u).many) (sym w.self) ∙ ap (λ r. r.many) (run_then g w.below)
+          ∙ ap (λ g. (run_at (state_after j (suc k)) g).many) is ∙ sym (inv.many v (within b))
 
-      pub Follows-reduced : (firsts' steps' : List ℤ) (low : ℕ) → BothReduce labels firsts steps (get_or labels e.left 0) (get_or labels e.right 0) i n firsts' steps' →
-          low ≡ min (get_or labels e.left 0) (get_or labels e.right 0) → length manys ≡ 256 → n ≤ 256 →
-          Follows j (suc k) labels' firsts' steps' (set manys low i.left.many)
-      Follows-reduced firsts' steps' low q low-is wide small = record {
-        label = λ v b. let c : v < n = omega (arith, b, a.all) in m.at v c ∙ sym (model_label v c);
+      pub Follows-reduced : Follows j (suc k) labels' runs'
+      Follows-reduced = record {
+        label = λ v b. label_then v (omega (arith, b, a.all));
         run = λ v b. let c : v < n = omega (arith, b, a.all) in
-            same_run
-            (q.first.at v c ∙ after_first l r (indices_by i) firsts steps (get_or labels v 0) (get_or manys (get_or labels v 0) 0) v ∙ sym (ap (λ r. r.first) (model_run v c)))
-            (q.step.at v c ∙ after_step l r (indices_by i) firsts steps (get_or labels v 0) (get_or manys (get_or labels v 0) 0) v ∙ sym (ap (λ r. r.step) (model_run v c)))
-            (many v c (Merged-cases l r (get_or labels v 0)));
+            same_run (ap (λ r. r.first) (run_then v c)) (ap (λ r. r.step) (run_then v c)) (many_then v c (led v c (Merged-cases l r (get_or labels v 0))));
       }
-        where
-          manys' : List ℕ
-          manys' = set manys low i.left.many
-
-          at_low : (v : ℕ) → v < n → merged l r (get_or labels v 0) ≡ min l r → get_or manys' (get_or labels' v 0) 0 ≡ (run_at (state_after j (suc k)) v).many
-          at_low v c z =
-              ap (λ g. get_or manys' g 0) (m.at v c ∙ z ∙ sym low-is)
-              ∙ get_or-set_same manys low i.left.many 0 (omega (arith, low-is, left_Leads.below, small, wide))
-              ∙ sym (many_of v c (m.at v c ∙ z))
-
-          many : (v : ℕ) → v < n → Merged l r (get_or labels v 0) → get_or manys' (get_or labels' v 0) 0 ≡ (run_at (state_after j (suc k)) v).many
-          many v c (first x z) = at_low v c z
-          many v c (second x z) = at_low v c z
-          many v c (other x y z) =
-              ap (λ g. get_or manys' g 0) (m.at v c ∙ z)
-              ∙ get_or-set_other manys low (get_or labels v 0) i.left.many 0 (λ w. omega (arith, w, low-is, x, y))
-              ∙ sym (ap (λ r. r.many) (model_run v c ∙ after_other l r (indices_by i) (get_or labels v 0) (seen v) x y))
 
 -- ---- after all of them
-pub Follows-end : (j : Job) → LawfulJob j → (labels : List ℕ) (firsts steps : List ℤ) (manys : List ℕ) → Follows j (length j.equations) labels firsts steps manys → (i : ℕ) → i < length j.variables →
-    (get_or labels i 0 ≡ lowest j i) × (gathered labels firsts steps manys i ≡ family_run j i)
+pub Follows-end : (j : Job) → LawfulJob j → (labels : List ℕ) (runs : List Run) → Follows j (length j.equations) labels runs → (i : ℕ) → i < length j.variables →
+    (get_or labels i 0 ≡ lowest j i) × (gathered labels runs i ≡ family_run j i)
 unfolding state_after_all
-Follows-end j f labels firsts steps manys o i h = let (g, r) = exact j f i h in (o.label i h ∙ g, o.run i h ∙ r)
+Follows-end j f labels runs o i h = let (g, r) = exact j f i h in (o.label i h ∙ g, o.run i h ∙ r)

@@ -12,9 +12,9 @@ pub mod Labels
 pub mod Spans
 -- what is promised of the pass over the equations: all that the map shows
 pub mod Structured
--- the runs of all variables field by field
-pub mod Fields
--- what the program's enums and structs of one step say
+-- the runs of all variables while equations are taken in
+pub mod Runs
+-- what the program makes of one equation
 pub mod Steps
 -- how large the numbers are
 pub mod Widths

@@ -2,7 +2,7 @@
 use Rattle.std.specs.Prelude.{List, ℕ, get_or, ℤ, pos}
 use Rattle.lists.specs.Table.{Tabulates}
 use Rattle.runs.specs.declared.Run.{Run}
-use Rattle.runs.specs.Run.{full}
+use Rattle.runs.specs.Run.{full, empty}
 use Rattle.runs.specs.Search.{meet}
 use Rattle.jobs.specs.Job.{Job, variable}
 use Rattle.jobs.specs.declared.Bounds.{Bounds}
@@ -15,12 +15,9 @@ BoundsOf j = Tabulates no_bounds (λ i. record { low = (variable j i).low; high 
 abbrev pub WeightsOf : Job → ℕ → List ℤ → Type 0
 WeightsOf j = Tabulates (pos 0) (λ i. (variable j i).weight)
 
--- the full range met with each variable's bounds,
+-- the full range met with each variable's bounds
 abbrev pub begun : List Bounds → ℕ → Run
 begun bounds i = meet full (interval (get_or bounds i no_bounds).low (get_or bounds i no_bounds).high)
 
--- and its fields
-pub record Begins (bounds : List Bounds) (n : ℕ) (firsts steps : List ℤ) (manys : List ℕ) : Type 0 where
-  pub first : Tabulates (pos 0) (λ i. (begun bounds i).first) n firsts
-  pub step : Tabulates (pos 0) (λ i. (begun bounds i).step) n steps
-  pub many : Tabulates 0 (λ i. (begun bounds i).many) n manys
+abbrev pub Begins : List Bounds → ℕ → List Run → Type 0
+Begins bounds = Tabulates empty (begun bounds)

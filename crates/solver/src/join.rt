@@ -1,4 +1,6 @@
 //! An equation between two components: which members of the two families go together.
+//!
+//! What is asked of an equation's numbers and of a family's run stays in clauses, as in `cycle` and `parts`.
 
 ghost use Rattle.std.specs.Prelude.{◌≡◌, ◌-ℤ◌, ◌*ℤ◌};
 ghost use Rattle.ints.specs.Within.{Within};
@@ -25,8 +27,8 @@ pub struct Indices {
 // lowest variable, which is that of both together and must rise.
 pub(crate) fn between(e: Equation, p: Run, q: Run, leads: bool) -> Indices
     requires carry_limits { CarryLimits e }
-    requires family_run { FamilyRun p }
-    requires family_run_2 { FamilyRun q }
+    requires left_family { FamilyRun p }
+    requires right_family { FamilyRun q }
     ensures { indices_by result ≡ join e p q (meet (upward p) (carry e.a e.b e.c (upward q))) leads }
 {
     let left = parts::upward(p);
@@ -47,8 +49,8 @@ pub(crate) fn between(e: Equation, p: Run, q: Run, leads: bool) -> Indices
 
 // Where the numbers of a run stand in a family's run: exact quotients.
 fn indices_in(r: Run, numbers: Run) -> Run
-    requires crossable { Crossable r }
-    requires crossable_2 { Crossable numbers }
+    requires family_crossable { Crossable r }
+    requires numbers_crossable { Crossable numbers }
     ensures { result ≡ indices_in r numbers }
 {
     Run {
@@ -60,8 +62,8 @@ fn indices_in(r: Run, numbers: Run) -> Run
 
 // The quotient; 0 where the divisor is 0, as it is in a family of one member.
 fn ratio(n: i64, d: i64) -> i64
-    requires within { Within 4000000000000000000 n }
-    requires within_2 { Within 4000000000000000000 d }
+    requires small_dividend { Within 4000000000000000000 n }
+    requires small_divisor { Within 4000000000000000000 d }
     ensures { result ≡ ratio n d }
 {
     if d == 0 { 0 } else { ints::quotient(n, d) }
@@ -73,11 +75,7 @@ fn across(e: Equation, r: Run) -> Run
     requires crossable { Crossable r }
     ensures { result ≡ across e.a e.b e.c r }
 {
-    let steps = Equation {
-        a: e.a,
-        b: e.b,
-        c: 0,
-    };
+    let steps = Equation { c: 0, ..e };
     Run {
         first: partner(e, r.first),
         step: partner(steps, r.step),
@@ -88,7 +86,7 @@ fn across(e: Equation, r: Run) -> Run
 // The partner of p, where there is a whole one.
 fn partner(e: Equation, p: i64) -> i64
     requires carry_limits { CarryLimits e }
-    requires within { Within 2000000000 p }
+    requires small_number { Within 2000000000 p }
     ensures { result ≡ floor_div (e.c -ℤ e.a *ℤ p) e.b }
 {
     ints::quotient(e.c - e.a * p, e.b)
@@ -97,8 +95,8 @@ fn partner(e: Equation, p: i64) -> i64
 impl Indices {
     // In the direction in which the new lowest variable rises. The lowest variables of both components rise with their indices.
     fn directed(self, leads: bool) -> Indices
-        requires turnable { Turnable self.left }
-        requires turnable_2 { Turnable self.right }
+        requires left_turnable { Turnable self.left }
+        requires right_turnable { Turnable self.right }
         ensures { indices_by result ≡ directed leads (indices_by self) }
     {
         if self.leading(leads).step < 0 {

@@ -19,8 +19,6 @@ pub mod structure;
 pub mod variables;
 // where every variable begins
 mod range;
-// the runs of all variables, field by field
-mod fields;
 // what an equation leaves of its families
 mod reduce;
 // the equations, one after the other

@@ -1,4 +1,7 @@
 //! Parts of a family, and families the other way round.
+//!
+//! What is asked of a family's run stays in clauses: it may fall, so `Run` cannot carry the one form, and a type for the runs of families
+//! would be no plainer.
 
 ghost use Rattle.std.specs.Prelude.{◌≡◌};
 ghost use Rattle.families.specs.FamilyRun.{FamilyRun, turned, upward};
@@ -9,8 +12,8 @@ use runs::Run;
 
 // The members of a family at the indices of a run, for one variable.
 pub(crate) fn through(r: Run, indices: Run) -> Run
-    requires family_run { FamilyRun r }
-    requires family_run_2 { FamilyRun (through r indices) }
+    requires before { FamilyRun r }
+    requires after { FamilyRun (through r indices) }
     ensures { result ≡ through r indices }
 {
     if indices.many == 0 {
@@ -29,7 +32,7 @@ pub(crate) fn turned(r: Run) -> Run
     ensures { result ≡ turned r }
 {
     Run {
-        first: r.first + r.step * (r.many as i64 - 1),
+        first: r.first + r.step * (i64::from(r.many) - 1),
         step: -r.step,
         many: r.many,
     }

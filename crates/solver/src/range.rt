@@ -1,6 +1,6 @@
 //! What every variable can be before any equation: the numbers within its bounds.
 
-ghost use Rattle.std.specs.Prelude.{◌≡◌, ◌≤◌, length};
+ghost use Rattle.std.specs.Prelude.{◌≡◌, ◌≤◌};
 ghost use Rattle.families.specs.Model.{interval};
 ghost use Rattle.jobs.specs.Bounds.{Bounded, BoundedBy};
 ghost use Rattle.solver.specs.VariableArrays.{Begins};
@@ -30,31 +30,13 @@ fn interval(b: Bounds) -> Run
     }
 }
 
-// The full range, met with the bounds of each of n variables, field by field.
-pub(crate) fn start(
-    bounds: &[Bounds; 256],
-    firsts: &mut [i64],
-    steps: &mut [i64],
-    manys: &mut [u32],
-    n: usize,
-)
-    requires n_bound { n ≤ 256 }
-    requires firsts_len { length firsts.old ≡ 256 }
-    requires steps_len { length steps.old ≡ 256 }
-    requires manys_len { length manys.old ≡ 256 }
+// The full range, met with the bounds of each of n variables.
+pub(crate) fn start(bounds: &[Bounds; 256], runs: &mut [Run; 256], n: usize)
+    requires few { n ≤ 256 }
     requires bounded_by { BoundedBy bounds.now n }
-    ensures { Begins bounds.now n firsts.new steps.new manys.new }
+    ensures { Begins bounds.now n runs.new }
 {
-    let mut i: usize = 0;
-    while i < n {
-        let b = bounds[i];
-        let run = Run::full().meet(interval(b));
-        let first = run.first;
-        let step = run.step;
-        let many = run.many;
-        firsts[i] = first;
-        steps[i] = step;
-        manys[i] = many;
-        i += 1;
+    for i in 0..n {
+        runs[i] = Run::full().meet(interval(bounds[i]));
     }
 }

@@ -1,46 +1,63 @@
 //! What an equation leaves of the families of its two variables, for all variables of their components.
+//!
+//! While equations are taken in, how many numbers a variable's run has stands at the lowest variable of its component alone, so that an
+//! equation which takes only the last members away writes one number and walks through no component.
 
-ghost use Rattle.std.specs.Prelude.{◌≡◌, true};
+ghost use Rattle.std.specs.Prelude.{◌≡◌, ◌<◌, true};
+ghost use Rattle.lists.specs.Table.{Tabulates};
+ghost use Rattle.runs.specs.Run.{empty};
+ghost use Rattle.solver.specs.Runs.{gathered};
 ghost use Rattle.solver.specs.Spans.{Leads};
-ghost use Rattle.solver.specs.Steps.{Arrays, Stays, Reducible, Reduces, BothReducible, BothReduce};
+ghost use Rattle.solver.specs.Steps.{Stays, Reducible, Reduces, BothReducible, BothReduce};
 
 use crate::components::Components;
 use crate::join::Indices;
 use crate::parts;
 use runs::Run;
 
-// Of the families of the components l and r, which have x and y members, those at their indices stay.
-pub(crate) fn both(
-    components: &Components,
-    firsts: &mut [i64],
-    steps: &mut [i64],
-    l: u16,
-    r: u16,
-    kept: Indices,
-    x: u32,
-    y: u32,
-)
-    requires arrays { Arrays components.now.labels components.now.lasts firsts.old steps.old components.now.variables }
-    requires leads { Leads components.now.labels components.now.variables l }
-    requires leads_2 { Leads components.now.labels components.now.variables r }
-    requires both_reducible { BothReducible components.now.labels firsts.old steps.old l r kept x y components.now.variables }
-    ensures { BothReduce components.now.labels firsts.old steps.old l r kept components.now.variables firsts.new steps.new }
+// What variable i can be.
+pub(crate) fn run_of(components: &Components, runs: &[Run; 256], i: usize) -> Run
+    requires { i < components.now.variables }
+    ensures { result ≡ gathered components.now.labels runs.now i }
 {
-    one(components, firsts, steps, l, kept.left, x);
-    if l != r {
-        one(components, firsts, steps, r, kept.right, y);
+    Run {
+        many: runs[components.label(i) as usize].many,
+        ..runs[i]
     }
 }
 
-// Of one family, of so many members. Where they keep their places, there is nothing to be done.
-fn one(components: &Components, firsts: &mut [i64], steps: &mut [i64], g: u16, kept: Run, many: u32)
-    requires arrays { Arrays components.now.labels components.now.lasts firsts.old steps.old components.now.variables }
-    requires leads { Leads components.now.labels components.now.variables g }
-    requires reducible { Reducible components.now.labels firsts.old steps.old g kept many components.now.variables }
-    ensures { Reduces components.now.labels firsts.old steps.old g kept components.now.variables firsts.new steps.new }
+// Of the families of the components l and r those members at their indices stay.
+pub(crate) fn both(components: &Components, runs: &mut [Run; 256], l: u16, r: u16, kept: Indices)
+    requires left_leads { Leads components.now.labels components.now.variables l }
+    requires right_leads { Leads components.now.labels components.now.variables r }
+    requires reducible { BothReducible components.now.labels runs.old l r kept components.now.variables }
+    ensures { BothReduce components.now.labels runs.old l r kept components.now.variables runs.new }
 {
-    if !stay(kept, many) {
-        walk(components, firsts, steps, g, kept, many);
+    one(components, runs, l, kept.left);
+    if l != r {
+        one(components, runs, r, kept.right);
+    }
+}
+
+// Of the family of the component g. Its variables lie from g to its last.
+fn one(components: &Components, runs: &mut [Run; 256], g: u16, kept: Run)
+    requires leads { Leads components.now.labels components.now.variables g }
+    requires reducible { Reducible components.now.labels runs.old g kept components.now.variables }
+    ensures { Reduces components.now.labels runs.old g kept components.now.variables runs.new }
+{
+    let many = runs[g as usize].many;
+    runs[g as usize].many = kept.many;
+    if stay(kept, many) {
+        return;
+    }
+    let end = components.lasts[g as usize] as usize + 1;
+    for i in g as usize..end {
+        if components.labels[i] == g {
+            let run = &mut runs[i];
+            let part = parts::through(Run { many, ..*run }, kept);
+            run.first = part.first;
+            run.step = part.step;
+        }
     }
 }
 
@@ -48,50 +65,14 @@ fn one(components: &Components, firsts: &mut [i64], steps: &mut [i64], g: u16, k
 fn stay(kept: Run, many: u32) -> bool
     ensures { result ≡ true → Stays kept many }
 {
-    if many == 0 {
-        return true;
-    }
-    if kept.many == 0 {
-        return false;
-    }
-    if kept.first != 0 {
-        return false;
-    }
-    if many == 1 {
-        return true;
-    }
-    kept.step == 1
+    many == 0 || kept.many != 0 && kept.first == 0 && (many == 1 || kept.step == 1)
 }
 
-// The numbers of each variable of the component g: they lie from it to its last.
-fn walk(
-    components: &Components,
-    firsts: &mut [i64],
-    steps: &mut [i64],
-    g: u16,
-    kept: Run,
-    many: u32,
-)
-    requires arrays { Arrays components.now.labels components.now.lasts firsts.old steps.old components.now.variables }
-    requires leads { Leads components.now.labels components.now.variables g }
-    requires reducible { Reducible components.now.labels firsts.old steps.old g kept many components.now.variables }
-    ensures { Reduces components.now.labels firsts.old steps.old g kept components.now.variables firsts.new steps.new }
+// How many numbers each run has, written at every variable.
+pub(crate) fn fill(components: &Components, runs: &mut [Run; 256])
+    ensures { Tabulates empty (gathered components.now.labels runs.old) components.now.variables runs.new }
 {
-    let end = components.lasts[g as usize] as usize + 1;
-    let mut i: usize = g as usize;
-    while i < end {
-        if components.labels[i] == g {
-            let run = Run {
-                first: firsts[i],
-                step: steps[i],
-                many: many,
-            };
-            let part = parts::through(run, kept);
-            let first = part.first;
-            let step = part.step;
-            firsts[i] = first;
-            steps[i] = step;
-        }
-        i += 1;
+    for i in 0..components.variables {
+        runs[i].many = runs[components.label(i) as usize].many;
     }
 }

@@ -41,7 +41,7 @@ module _ (e : Equation) (x y : ℤ) (p : Combinable e × (Within 2000000000 x ×
   result = rw (to_z-of_z fits_a, to_z-of_z fits_b, to_z-of_z fits_x, to_z-of_z fits_y, to_z-of_z fits_ax, to_z-of_z fits_by, to_z-of_z fits_sum) refl
 
 pub overflow_add-result : goal.overflow_add-result
-overflow_add-result c = sum c.args.e c.args.x c.args.y (c.requires.combinable, (c.requires.within, c.requires.within_2))
+overflow_add-result c = sum c.args.e c.args.x c.args.y (c.requires.combinable, (c.requires.small_x, c.requires.small_y))
 
 pub returns : goal.returns
-returns c = result c.args.e c.args.x c.args.y (c.requires.combinable, (c.requires.within, c.requires.within_2))
+returns c = result c.args.e c.args.x c.args.y (c.requires.combinable, (c.requires.small_x, c.requires.small_y))

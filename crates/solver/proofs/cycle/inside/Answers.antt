@@ -19,10 +19,7 @@ use Rattle.families.specs.Model.{coefficient, residual, candidate, cycle}
 use Rattle.families.proofs.FamilySizes.{first-Within, step-Within}
 use Rattle.solver.specs.Widths.{Combinable}
 use Rattle.solver.proofs.In64Bits.{fits_64, held-first, held-step, crossable}
-use Rattle.solver.proofs.cycle.inside.Goals.{After-combined, Start}
-use Rattle.solver.proofs.cycle.inside.Lts as lts
-use Rattle.solver.proofs.cycle.inside.Tie as tie
-use Rattle.solver.proofs.cycle.inside.Reads as reads
+use Rattle.solver.proofs.cycle.inside.Goals.{After-combined}
 use Rattle.solver.proofs.cycle.inside.Goals as goal
 
 -- the arguments of the two combinations
@@ -108,21 +105,18 @@ module _ {e : Equation} {P Q : Run} {d u : ℤ} (k : Known e P Q d u) where
     everything h = rw (sym d_zero ∙ eq-eqb (of_z w64 d) 0 z, sym v_zero ∙ eq-eqb (of_z w64 v) 0 h) refl
 
 pub combined-coefficient-requires : goal.combined-coefficient-requires
-combined-coefficient-requires c = record { combinable = c.requires.combinable; within = step_asked c.requires.family_run; within_2 = step_asked c.requires.family_run_2 }
+combined-coefficient-requires c = record { combinable = c.requires.combinable; small_x = step_asked c.requires.left_family; small_y = step_asked c.requires.right_family }
 
 pub combined-requires : goal.combined-requires
-combined-requires c = record { combinable = c.requires.combinable; within = first_asked c.requires.family_run; within_2 = first_asked c.requires.family_run_2 }
+combined-requires c = record { combinable = c.requires.combinable; small_x = first_asked c.requires.left_family; small_y = first_asked c.requires.right_family }
 
 -- after both
-module _ (c : lts.After-combined2 tie.the-claims reads.Pre reads.Post tie.handed_clauses) where
-  abbrev start : Start
-  start = c.before.before.before.before.before.before
-
-  abbrev known : Known start.args.e start.args.p start.args.q c.combined-coefficient.result c.combined.result
+module _ (c : After-combined) where
+  abbrev known : Known c.args.e c.args.p c.args.q c.combined-coefficient.result c.combined.result
   known = record {
-    lim = start.requires.combinable;
-    left = start.requires.family_run;
-    right = start.requires.family_run_2;
+    lim = c.requires.combinable;
+    left = c.requires.left_family;
+    right = c.requires.right_family;
     d_is = c.combined-coefficient.ensures;
     d_fits = record { sfits = c.combined-coefficient.type_inv };
     u_is = c.combined.ensures;
@@ -130,16 +124,16 @@ module _ (c : lts.After-combined2 tie.the-claims reads.Pre reads.Post tie.handed
   }
 
 pub overflow_sub-value : goal.overflow_sub-value
-overflow_sub-value c = v_asked (known (goal.at.overflow_sub-value c).After-combined.before)
+overflow_sub-value c = v_asked (known (goal.at.overflow_sub-value c).After-combined)
 
 pub candidate-requires : goal.candidate-requires
-candidate-requires c = let both = candidate_asked (known (goal.at.candidate-requires c).After-combined.before) c.if-coefficient-ne0.true in record { within = both.0; within_2 = both.1.0; coefficient_nonzero = both.1.1 }
+candidate-requires c = let both = candidate_asked (known (goal.at.candidate-requires c).After-combined) c.if-coefficient-ne0.true in record { small_value = both.0; small_coefficient = both.1.0; coefficient_nonzero = both.1.1 }
 
 pub returns-then-coefficient-ne0 : goal.returns-then-coefficient-ne0
-returns-then-coefficient-ne0 c = leaves (known (goal.at.returns-then-coefficient-ne0 c).After-combined.before) c.if-coefficient-ne0.true c.candidate.result c.candidate.ensures
+returns-then-coefficient-ne0 c = leaves (known (goal.at.returns-then-coefficient-ne0 c).After-combined) c.if-coefficient-ne0.true c.candidate.result c.candidate.ensures
 
 pub returns-then-value-ne0 : goal.returns-then-value-ne0
-returns-then-value-ne0 c = nothing (known (goal.at.returns-then-value-ne0 c).After-combined.before) c.if-coefficient-ne0.false c.if-value-ne0.true c.empty.result c.empty.ensures
+returns-then-value-ne0 c = nothing (known (goal.at.returns-then-value-ne0 c).After-combined) c.if-coefficient-ne0.false c.if-value-ne0.true c.empty.result c.empty.ensures
 
 pub returns : goal.returns
-returns c = everything (known (goal.at.returns c).After-combined.before) c.if-coefficient-ne0.false c.if-value-ne0.false
+returns c = everything (known (goal.at.returns c).After-combined) c.if-coefficient-ne0.false c.if-value-ne0.false

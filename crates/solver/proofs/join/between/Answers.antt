@@ -50,13 +50,13 @@ module _ {e : Equation} {P Q R : Run} (k : Known e P Q R) (lower : Bool) where
         )
 
 pub carry-requires : goal.carry-requires
-carry-requires c = record { one_form = subst OneForm (sym c.upward-right.ensures) (upward_form c.requires.family_run_2); carry_limits = c.requires.carry_limits }
+carry-requires c = record { one_form = subst OneForm (sym c.upward-right.ensures) (upward_form c.requires.right_family); carry_limits = c.requires.carry_limits }
 
 carried_form : (e : Equation) (Q q r : Run) → CarryLimits e → FamilyRun Q → q ≡ upward Q → r ≡ carry e.a e.b e.c q → OneForm r
 carried_form e Q q r lim f d h = subst OneForm (sym (h ∙ ap (carry e.a e.b e.c) d)) (carry_form lim (upward_form f))
 
 pub meet-common-requires : goal.meet-common-requires
-meet-common-requires c = record { one_form = subst OneForm (sym c.upward-left.ensures) (upward_form c.requires.family_run); one_form_2 = carried_form c.args.e c.args.q c.upward-right.result c.carry.result c.requires.carry_limits c.requires.family_run_2 c.upward-right.ensures c.carry.ensures }
+meet-common-requires c = record { one_form = subst OneForm (sym c.upward-left.ensures) (upward_form c.requires.left_family); one_form_2 = carried_form c.args.e c.args.q c.upward-right.result c.carry.result c.requires.carry_limits c.requires.right_family c.upward-right.ensures c.carry.ensures }
 
 -- after the meeting
 module _ (c : After-meet-common) where
@@ -66,8 +66,8 @@ module _ (c : After-meet-common) where
   known : Known start.args.e start.args.p start.args.q c.meet-common.result
   known = record {
     lim = start.requires.carry_limits;
-    left = start.requires.family_run;
-    right = start.requires.family_run_2;
+    left = start.requires.left_family;
+    right = start.requires.right_family;
     is = is c.upward-left.result c.upward-right.result c.carry.result c.upward-left.ensures
         c.upward-right.ensures c.carry.ensures c.meet-common.ensures;
   }
@@ -77,16 +77,16 @@ module _ (c : After-meet-common) where
       is p q r a b d h = h ∙ rw (a, d, b) refl
 
 pub indices_in-requires : goal.indices_in-requires
-indices_in-requires c = let m = (goal.at.indices_in-requires c).After-meet-common in let both = left_asked (known m) (start m).args.leads c.if-common-eq0.false in record { crossable = both.0; crossable_2 = both.1 }
+indices_in-requires c = let m = (goal.at.indices_in-requires c).After-meet-common in let both = left_asked (known m) (start m).args.leads c.if-common-eq0.false in record { family_crossable = both.0; numbers_crossable = both.1 }
 
 pub across-requires : goal.across-requires
 across-requires c = let m = (goal.at.across-requires c).After-meet-common in record { carry_limits = (start m).requires.carry_limits; crossable = (left_asked (known m) (start m).args.leads c.if-common-eq0.false).1 }
 
 pub indices_in-requires-2 : goal.indices_in-requires-2
 indices_in-requires-2 c = let m = (goal.at.indices_in-requires-2 c).After-meet-common in
-    let both = right_asked (known m) (start m).args.leads c.if-common-eq0.false c.across.result c.across.ensures in record { crossable = both.0; crossable_2 = both.1 }
+    let both = right_asked (known m) (start m).args.leads c.if-common-eq0.false c.across.result c.across.ensures in record { family_crossable = both.0; numbers_crossable = both.1 }
 
 pub directed-requires : goal.directed-requires
 directed-requires c = let m = (goal.at.directed-requires c).After-meet-common in
     let both = turned_asked (known m) (start m).args.leads c.if-common-eq0.false c.across.result c.across.ensures
-    c.indices_in.result c.indices_in-2.result c.indices_in.ensures c.indices_in-2.ensures in record { turnable = both.0; turnable_2 = both.1 }
+    c.indices_in.result c.indices_in-2.result c.indices_in.ensures c.indices_in-2.ensures in record { left_turnable = both.0; right_turnable = both.1 }

@@ -28,5 +28,5 @@ module _ (r R : Run) (w : Crossable r × Crossable R) where
       rw (to_z-of_z g, to_z-of_z h, e', d') refl
 
 pub returns : goal.returns
-returns c = result c.args.r c.args.numbers (c.requires.crossable, c.requires.crossable_2) c.ratio.result c.ratio-2.result record { sfits = c.ratio.type_inv } record { sfits = c.ratio-2.type_inv }
+returns c = result c.args.r c.args.numbers (c.requires.family_crossable, c.requires.numbers_crossable) c.ratio.result c.ratio-2.result record { sfits = c.ratio.type_inv } record { sfits = c.ratio-2.type_inv }
     c.ratio.ensures c.ratio-2.ensures

@@ -48,7 +48,7 @@ module _ (e : Equation) (p : ℤ) (pre : CarryLimits e × Within 2000000000 p) w
   result q f h = let h' : q ≡ floor_div (held rest) (held e.b) = rw rest_is at h in to_z-of_z f ∙ answered limits floor_div h'
 
 pub quotient-requires : goal.quotient-requires
-quotient-requires c = rest_asked c.args.e c.args.p (c.requires.carry_limits, c.requires.within)
+quotient-requires c = rest_asked c.args.e c.args.p (c.requires.carry_limits, c.requires.small_number)
 
 pub returns : goal.returns
-returns c = result c.args.e c.args.p (c.requires.carry_limits, c.requires.within) c.quotient.result record { sfits = c.quotient.type_inv } c.quotient.ensures
+returns c = result c.args.e c.args.p (c.requires.carry_limits, c.requires.small_number) c.quotient.result record { sfits = c.quotient.type_inv } c.quotient.ensures

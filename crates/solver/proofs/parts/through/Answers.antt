@@ -1,6 +1,7 @@
 -- `through` meets its contract: what it makes is a number of the family, and the way to the next.
 use mathlib.Core.Path.{◌≡◌, refl}
 use mathlib.Core.Bool.{false}
+use mathlib.Core.Logic.{◌≢◌}
 use lib.Dec.{eqb}
 use borrow.Author.Rules.{rules}
 use borrow.Author.Tests.{ne_eqb}
@@ -14,15 +15,12 @@ use Rattle.families.specs.FamilyRun.{FamilyRun}
 use Rattle.families.specs.Model.{through}
 use Rattle.families.proofs.FamilySizes.{first-Within, step-Within}
 use Rattle.solver.proofs.In64Bits.{fits_64}
-use Rattle.solver.proofs.parts.through.Lts as lts
-use Rattle.solver.proofs.parts.through.Tie as tie
-use Rattle.solver.proofs.parts.through.Reads as reads
 use Rattle.solver.proofs.parts.through.Goals as goal
 
 abbrev made : Run → Run → Run
 made r s = record { first = r.first +ℤ r.step *ℤ s.first; step = r.step *ℤ s.step; many = s.many }
 
--- with an index at all, each number on the way fits-64
+-- with an index at all, each number on the way fits 64 bits
 record Known (r s : Run) : Type 0 where
   before : FamilyRun r
   after : FamilyRun (through r s)
@@ -62,30 +60,17 @@ module _ {r s : Run} (k : Known r s) where
       record { first = held (held r.first +ℤ held (held r.step *ℤ held s.first)); step = held (held r.step *ℤ held s.step); many = s.many } (through r s)
   result = rw (k.some, to_z-of_z fits_f, to_z-of_z fits_s, to_z-of_z k.fits_i, to_z-of_z k.fits_t, to_z-of_z fits_way, to_z-of_z fits_sum, to_z-of_z fits_next) refl
 
-module _ (c : lts.After-struct_told2 tie.the-claims reads.Pre reads.Post tie.handed_clauses) where
-  abbrev r : Run
-  r = c.args.r
-
-  abbrev s : Run
-  s = c.args.indices
-
-  abbrev known : Known r s
-  known = record {
-    before = c.requires.family_run;
-    after = c.requires.family_run_2;
-    some = ne_eqb s.many 0 c.if-indices-eq0.false;
-    fits_i = (search rules);
-    fits_t = (search rules);
-  }
+known : {r s : Run} → FamilyRun r → FamilyRun (through r s) → s.many ≢ 0 → SFits w64 s.first → SFits w64 s.step → Known r s
+known {r} {s} f g d i t = record { before = f; after = g; some = ne_eqb s.many 0 d; fits_i = i; fits_t = t }
 
 pub overflow_mul-result : goal.overflow_mul-result
-overflow_mul-result c = way (known c.before)
+overflow_mul-result c = way (known c.requires.before c.requires.after c.if-indices-eq0.false (search rules) (search rules))
 
 pub overflow_add-result : goal.overflow_add-result
-overflow_add-result c = sum (known c.before.before.before)
+overflow_add-result c = sum (known c.requires.before c.requires.after c.if-indices-eq0.false (search rules) (search rules))
 
 pub overflow_mul-result-2 : goal.overflow_mul-result-2
-overflow_mul-result-2 c = next (known c.before.before.before.before.before.before)
+overflow_mul-result-2 c = next (known c.requires.before c.requires.after c.if-indices-eq0.false (search rules) (search rules))
 
 pub returns : goal.returns
-returns c = result (known c.before.before.before.before.before.before)
+returns c = result (known c.requires.before c.requires.after c.if-indices-eq0.false (search rules) (search rules))

@@ -3,17 +3,17 @@ use mathlib.Core.Path.{◌≡◌, refl}
 use Prim.Native.Nat.{◌<◌}
 use borrow.Author.Rules.{rules}
 use mir.Syntax.{w64}
-use mir.Val.{SFits, to_z}
+use mir.Val.{SFits}
 use mir.Facts.{to_z-of_z}
 use Rattle.ints.proofs.{ℤ, pos, neg_ℤ, ◌+ℤ◌, ◌-ℤ◌, ◌*ℤ◌, [], ◌∷◌, arith, lin, lin₀, ◌&◌, facts, signed}
-use Rattle.ints.proofs.Signed.{held, cast}
+use Rattle.ints.proofs.Signed.{held}
 use Rattle.runs.specs.declared.Run.{Run}
 use Rattle.families.specs.FamilyRun.{turned}
 use Rattle.solver.specs.Widths.{Turnable}
 use Rattle.solver.proofs.In64Bits.{fits_64}
 use Rattle.solver.proofs.parts.turned.Goals as goal
 
-module _ (r : Run) (t : Turnable r) (small : r.many < 4294967296) where
+module _ (r : Run) (t : Turnable r) (small : r.many < 4294967296) (k : ℤ) (is : k ≡ pos r.many) where
   abbrev m : ℤ
   m = pos r.many -ℤ pos 1
 
@@ -23,8 +23,8 @@ module _ (r : Run) (t : Turnable r) (small : r.many < 4294967296) where
   fits_step : SFits w64 r.step
   fits_step = fits_64 4294967296 (omega arith) t.step
 
-  many_is : to_z w64 r.many ≡ pos r.many
-  many_is = cast r.many (omega (arith, small))
+  many_is : held k ≡ pos r.many
+  many_is = rw is (to_z-of_z {w = w64} {z = pos r.many} (lin (pos r.many ∷ []) small (search signed depth 20) (omega arith)))
 
   fits_m : SFits w64 m
   fits_m = lin (pos r.many ∷ []) small (search signed depth 20) (omega arith)
@@ -42,8 +42,8 @@ module _ (r : Run) (t : Turnable r) (small : r.many < 4294967296) where
   fits_back = lin (r.step ∷ []) t.step (search signed depth 20) (omega arith)
 
   result : ◌≡◌ {A = Run}
-      record { first = held (held r.first +ℤ held (held r.step *ℤ held (to_z w64 r.many -ℤ pos 1))); step = held (pos 0 -ℤ held r.step); many = r.many } (turned r)
+      record { first = held (held r.first +ℤ held (held r.step *ℤ held (held k -ℤ pos 1))); step = held (pos 0 -ℤ held r.step); many = r.many } (turned r)
   result = rw (many_is, to_z-of_z fits_first, to_z-of_z fits_step, to_z-of_z fits_m, to_z-of_z fits_way, to_z-of_z fits_last, opposite, to_z-of_z fits_back) refl
 
 pub returns : goal.returns
-returns c = result c.args.r c.requires (search rules)
+returns c = result c.args.r c.requires (search rules) c.from.result c.from.ensures
