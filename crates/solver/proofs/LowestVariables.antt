@@ -1,19 +1,22 @@
 -- The lowest variables of the components, as a pass over the variables meets them; g gives the label of each variable.
-use mathlib.Core.Path.{◌≡◌, refl, ◌∙◌, ap, subst}
+use mathlib.Core.Path.{◌≡◌, refl, sym, ◌∙◌, ap, subst}
 use mathlib.Core.Logic.{◌≢◌}
 use mathlib.Core.Bool.{Bool, true, false, cond}
-use mathlib.Core.List.{[], ◌∷◌, ◌++◌, append-nil}
+use mathlib.Core.List.{List, [], ◌∷◌, ◌++◌, append-nil}
 use Prim.Native.Nat.{ℕ, zero, suc, ◌+◌, ◌-◌, ◌≤◌, ◌<◌}
 use native.Mathlib.Omega.{arith}
 use native.Mathlib.Decide.{ℕ_discrete}
 use borrow.Author.Tests.{eq-eqb, ne_eqb, lt-ltb, le-ltb}
 use lib.Dec.{eqb, ltb}
-use lib.ListN.{length, length-append}
+use lib.ListN.{length, get_or, set, length-append}
 use Rattle.lists.specs.Members.{◌∈◌}
 use Rattle.lists.specs.Keep.{keep}
 use Rattle.lists.specs.Table.{up_to}
 use Rattle.lists.proofs.Keep.{in-keep, length-keep, keep_all, keep_both}
 use Rattle.lists.proofs.Table.{table_next, in-up_to, length-up_to}
+use Rattle.lists.proofs.ArrayPass.{Filled, filled}
+use Rattle.solver.specs.StateArrays.{label_in}
+use Rattle.solver.specs.Labels.{Lowest}
 use Rattle.families.specs.ModelFindings.{leads_by, component_by}
 
 -- one member more of a list, if it passes
@@ -98,3 +101,15 @@ module _ (g : ℕ → ℕ) where
   pub component_same : (n i k : ℕ) → g i ≡ g k → component_by g n i ≡ component_by g n k
   unfolding component_by
   component_same n i k e = ap (λ v. length (keep (λ l. ltb l v) (leads_by g n))) e
+
+-- the numbers of the variables before i, and of i: a lowest variable takes the next number, and another that of its lowest variable
+module _ (labels : List ℕ) (n i : ℕ) (numbers : List ℕ) (small : n ≤ 256) (h : i < n) (f : Filled 256 0 (component_by (label_in labels) n) i numbers) where
+  pub next_numbered : (next : ℕ) → next ≡ length (leads_by (label_in labels) i) → label_in labels i ≡ i →
+      Filled 256 0 (component_by (label_in labels) n) (i + 1) (set numbers i next)
+  next_numbered next e q = filled 0 (component_by (label_in labels) n) i numbers f next (omega arith) (e ∙ sym (component_lead (label_in labels) n i (omega arith) q))
+
+  pub same_numbered : Lowest labels n → label_in labels i ≢ i →
+      Filled 256 0 (component_by (label_in labels) n) (i + 1) (set numbers i (get_or numbers (label_in labels i) 0))
+  same_numbered w d =
+      filled 0 (component_by (label_in labels) n) i numbers f (get_or numbers (label_in labels i) 0) (omega arith)
+      (f.done (label_in labels i) (omega (arith, w.low i h, d)) ∙ component_same (label_in labels) n (label_in labels i) i (w.self i h))
