@@ -1,16 +1,16 @@
 -- The program's arrays follow the model, equation by equation.
 use mathlib.Core.Path.{◌≡◌, refl, sym, ◌∙◌, ap, ap₂, subst}
-use mathlib.Core.Logic.{inl, ◌≢◌}
+use mathlib.Core.Logic.{◌≢◌}
 use mathlib.Core.Bool.{cond}
 use mathlib.Core.Option.{Option, none, some, none-ne-some}
 use mathlib.Core.List.{List, [], ◌∷◌}
 use Prim.Native.Nat.{ℕ, suc, ◌≤◌, ◌<◌, min}
+use native.Mathlib.Omega.{min_cases}
 use native.Mathlib.Decide.{ℕ_discrete}
 use lib.Dec.{ltb}
-use lib.ListN.{length, get_or, set}
-use lib.Seq.{get_or-set_same, get_or-set_other}
-use borrow.Author.Tests.{eq-eqb, ne_eqb}
-use Rattle.ints.proofs.{ℤ, arith, lin, ◌&◌, facts}
+use lib.ListN.{length, get_or}
+use borrow.Author.Tests.{eq-eqb}
+use Rattle.ints.proofs.{arith, lin, ◌&◌, facts}
 use Rattle.runs.specs.declared.Equation.{Equation as Form}
 use Rattle.runs.specs.declared.Run.{Run}
 use Rattle.runs.specs.Run.{full}
@@ -24,22 +24,21 @@ use Rattle.jobs.specs.ReasonTable.{Coefficients}
 use Rattle.jobs.specs.Component.{merged, lowest_by, lowest}
 use Rattle.jobs.specs.Lawful.{LawfulJob, LawfulEquation}
 use Rattle.jobs.proofs.NormalForm.{normal_cases, normal-left_below, normal-right_below, normal_carries}
-use Rattle.jobs.proofs.Components.{Merged, first, second, other, Merged-cases, merged_one, lowest_by-le, lowest_by_self}
+use Rattle.jobs.proofs.Components.{Merged, first, second, other, Merged-cases, lowest_by-le, lowest_by_self}
 use Rattle.families.specs.Model.{State, label_at, run_at, Indices as Pair, interval, start_state, through, both_sides, cycle, join, common_numbers, run_after, kept, change, next, state_after, state_after_all}
 use Rattle.jobs.specs.Family.{family_run}
 use Rattle.families.proofs.StartState.{began_is, label_at-start_state, run_at-start_state}
 use Rattle.families.proofs.InvariantHolds.{Reached, reached, invariant, change_none, label_after, run_after_lem}
 use Rattle.families.proofs.Labels.{next_label}
-use Rattle.families.proofs.Subfamily.{after_left, after_right, after_other}
+use Rattle.families.proofs.Subfamily.{after_left, after_right}
 use Rattle.families.proofs.ModelIsExact.{exact}
 use Rattle.solver.specs.declared.join.Indices.{Indices}
-use Rattle.solver.specs.Labels.{Labelled, Merges, Labels, Apart}
+use Rattle.solver.specs.Labels.{Merges, Labels, Apart}
 use Rattle.solver.specs.Spans.{Leads}
 use Rattle.solver.specs.Widths.{Combinable}
 use Rattle.solver.specs.StateArrays.{run_in}
 use Rattle.solver.specs.Runs.{gathered}
 use Rattle.solver.specs.Steps.{indices_by, Reducible, BothReducible, BothReduce}
-use Rattle.solver.proofs.SpannedLabels.{Leads-both}
 use Rattle.solver.proofs.ReducedRuns.{same_run}
 
 -- the arrays have at each variable what the model has after k equations
@@ -92,18 +91,19 @@ ring_sides f l r P Q i z h = go (cycle f P Q) (h ∙ ap (λ b. cond b (both_side
     go (some s) e = cc
 
 -- ---- the labels alone
+-- of two that lead, the lower leads
+lower_leads : (L : List ℕ) (n l r : ℕ) → Leads L n l → Leads L n r → Leads L n (min l r)
+lower_leads L n l r a b = min_cases l r (Leads L n (min l r)) (λ _ e. subst (Leads L n) (sym e) a) (λ _ e. subst (Leads L n) (sym e) b)
+
 pub labels_start : (j : Job) (n : ℕ) (labels : List ℕ) → n ≤ 256 → Apart labels → Labels j 0 n labels
 unfolding lowest_by
 labels_start j n labels h a = record { at = λ i b. a.at i (omega arith) }
 
 module _ (j : Job) (k : ℕ) (labels : List ℕ) (n : ℕ) (a : Labels j k n labels) where
-  pub labels_le : Labelled labels n
-  labels_le = record { at = λ i h. omega (arith, a.at i h, lowest_by-le j k i) }
-
   -- the label of a variable is the lowest of its component
   pub labels_lead : (i : ℕ) → i < n → Leads labels n (get_or labels i 0)
   labels_lead i h =
-      let below : get_or labels i 0 < n = omega (arith, labels_le.at i h, h) in
+      let below : get_or labels i 0 < n = omega (arith, a.at i h, lowest_by-le j k i, h) in
       record { below = below; self = a.at (get_or labels i 0) below ∙ ap (lowest_by j k) (a.at i h) ∙ lowest_by_self j k i ∙ sym (a.at i h) }
 
   -- one equation more, whose row in normal form is e
@@ -263,8 +263,8 @@ module _ {j : Job} {n k : ℕ} {labels : List ℕ} {runs : List Run} {e : Equati
 
       -- a variable's label is then the lowest of its component, and was the lowest of one before
       led : (v : ℕ) → v < n → Merged l r (get_or labels v 0) → Leads labels n (get_or labels' v 0)
-      led v b (first x z) = subst (Leads labels n) (sym (m.at v b ∙ z)) (Leads-both labels n l r left_Leads right_Leads).0
-      led v b (second x z) = subst (Leads labels n) (sym (m.at v b ∙ z)) (Leads-both labels n l r left_Leads right_Leads).0
+      led v b (first x z) = subst (Leads labels n) (sym (m.at v b ∙ z)) (lower_leads labels n l r left_Leads right_Leads)
+      led v b (second x z) = subst (Leads labels n) (sym (m.at v b ∙ z)) (lower_leads labels n l r left_Leads right_Leads)
       led v b (other x y z) = subst (Leads labels n) (sym (m.at v b ∙ z)) (labels_lead j k labels n labels_are v b)
 
       -- how many there are, there

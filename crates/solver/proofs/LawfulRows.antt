@@ -4,7 +4,7 @@ use mathlib.Core.List.{List}
 use Prim.Native.Nat.{ℕ, ◌≤◌, ◌<◌}
 use native.Mathlib.Omega.{arith}
 use Rattle.jobs.specs.declared.Equation.{Equation}
-use Rattle.jobs.specs.Job.{job_of, RowsInside, variable_count, equation_count, equation}
+use Rattle.jobs.specs.Job.{job_of, variable_count, equation_count, equation}
 use Rattle.jobs.specs.NormalForm.{normal_row}
 use Rattle.jobs.specs.ReasonTable.{Coefficients}
 use Rattle.jobs.specs.Lawful.{Lawful, LawfulEquation}
@@ -21,9 +21,6 @@ module _ {s : List ℕ} {n m : ℕ} (z : Sizes s n m) where
 
   pub m_most : m ≤ 1024
   m_most = omega (arith, z.1.1, z.0.rows.equations)
-
-  pub row_asked : (k : ℕ) → k < m → RowsInside s × ((n ≡ variable_count s) × (k < equation_count s))
-  row_asked k h = (z.0.rows, (z.1.0, omega (arith, z.1.1)))
 
   -- row k, as it is written
   module _ (k : ℕ) (h : k < m) where

@@ -1,10 +1,6 @@
 -- The laws that the proofs of the functions go by.
 
--- two labels that become one
-pub mod MergedLabels
--- labels and spans of components that become one
-pub mod SpannedLabels
--- whether an equation joins two sets: the program's test tells just that (`Joins-told`)
+-- whether an equation joins two sets: its labels tell just that (`Joins-told`)
 pub mod JoinTest
 -- the lowest variables of the components, one after the other
 pub mod LowestVariables

@@ -9,11 +9,7 @@ use Rattle.solver.specs.StateArrays.{label_in}
 abbrev pub Apart : List ℕ → Type 0
 Apart = Tabulates 0 (λ i. i) 256
 
--- a label is the lowest of its component, and so not above the variable
-pub record Labelled (labels : List ℕ) (n : ℕ) : Type 0 where
-  pub at : (i : ℕ) → i < n → label_in labels i ≤ i
-
--- and it labels itself
+-- a label is the lowest of its component, and so not above the variable, and it labels itself
 pub record Lowest (labels : List ℕ) (n : ℕ) : Type 0 where
   pub low : (i : ℕ) → i < n → label_in labels i ≤ i
   pub self : (i : ℕ) → i < n → label_in labels (label_in labels i) ≡ label_in labels i

@@ -7,12 +7,7 @@ pub record Leads (labels : List ℕ) (n g : ℕ) : Type 0 where
   pub below : g < n
   pub self : label_in labels g ≡ g
 
--- all of component g lie from g on, before `end`
-pub record Between (labels : List ℕ) (n g end : ℕ) : Type 0 where
-  pub from : (i : ℕ) → i < n → label_in labels i ≡ g → g ≤ i
-  pub to : (i : ℕ) → i < n → label_in labels i ≡ g → i < end
-
--- and of every component, from its lowest variable to the one that stands there
+-- the variables of every component lie from its lowest one to the one that `lasts` has there
 pub record Spans (labels lasts : List ℕ) (n : ℕ) : Type 0 where
   pub low : (i : ℕ) → i < n → label_in labels i ≤ i
   pub high : (i : ℕ) → i < n → i ≤ get_or lasts (label_in labels i) 0
