@@ -35,15 +35,12 @@ fn read(job: &[u8], bounds: &mut [Bounds; 256], weights: &mut [i64; 256], n: usi
     ensures bounds_of { BoundsOf (job_of job.now) n bounds.new }
     ensures weights_of { WeightsOf (job_of job.now) n weights.new }
 {
-    let mut i: usize = 0;
-    while i < n {
+    for i in 0..n {
         let v = Variable::read(job, i);
         bounds[i] = Bounds {
             low: v.low,
             high: v.high,
         };
-        let weight = v.weight;
-        weights[i] = weight;
-        i += 1;
+        weights[i] = v.weight;
     }
 }

@@ -1,5 +1,5 @@
 -- `read` meets its contract.
-use Prim.Native.Nat.{ℕ, ◌-◌, ◌≤◌}
+use Prim.Native.Nat.{ℕ}
 use lib.IntN.{ℤ, pos}
 use Rattle.lists.proofs.ArrayPass.{Filled}
 use Rattle.jobs.specs.Job.{Job, job_of, variable}
@@ -15,7 +15,4 @@ abbrev pub weight_in : Job → ℕ → ℤ
 weight_in j k = (variable j k).weight
 
 abbrev pub invariant-loop-i : goal.invariant-loop-i
-invariant-loop-i l = (l.i ≤ l.n) × (Filled 256 no_bounds (bounds_in (job_of l.job)) l.i l.bounds × Filled 256 (pos 0) (weight_in (job_of l.job)) l.i l.weights)
-
-abbrev pub decreases-loop-i : goal.decreases-loop-i
-decreases-loop-i l = l.n - l.i
+invariant-loop-i l = Filled 256 no_bounds (bounds_in (job_of l.job)) l.i l.bounds × Filled 256 (pos 0) (weight_in (job_of l.job)) l.i l.weights
