@@ -12,6 +12,8 @@ pub mod JoinWidths
 pub mod ReducedRuns
 -- the arrays follow the model, equation by equation (`Follows`, `Follows-reduced`), to the families (`Follows-end`)
 pub mod CodeFollowsModel
+-- the rows of the variables, with amendments
+pub mod RowsInForce
 -- the rows of a lawful job
 pub mod LawfulRows
 -- the pass over the equations, one at a time: `Through`, `begins`, `onward`

@@ -3,8 +3,7 @@
 ghost use Rattle.std.specs.Prelude.{◌≡◌, ◌≢◌};
 ghost use Rattle.runs.specs.Workings.{CarryLimits};
 ghost use Rattle.families.specs.FamilyRun.{FamilyRun};
-ghost use Rattle.jobs.specs.Job.{job_of, variable_count, equation_count};
-ghost use Rattle.jobs.specs.Lawful.{Lawful};
+ghost use Rattle.jobs.specs.Job.{job_of};
 ghost use Rattle.families.specs.Model.{kept};
 ghost use Rattle.solver.specs.Families.{Families};
 ghost use Rattle.jobs.specs.Bounds.{with_bounds, BoundedBy};
@@ -14,21 +13,19 @@ ghost use Rattle.solver.specs.Steps.{kept_by};
 use crate::components::Components;
 use crate::join::Indices;
 use crate::{State, cycle, join, range, reduce};
-use jobs::{Bounds, Equation};
+use jobs::{Bounds, LawfulJob};
 use runs::Run;
 
-/// The families of a job with these bounds, after all of its m equations, put in `state`, whatever that has.
-pub fn families(job: &[u8], bounds: &[Bounds; 256], n: usize, m: usize, state: &mut State)
-    requires lawful { Lawful job.now }
-    requires n_value { n ≡ variable_count job.now }
-    requires m_value { m ≡ equation_count job.now }
-    requires bounded_by { BoundedBy bounds.now n }
-    ensures { Families (with_bounds (job_of job.now) bounds.now) state.new }
+/// The families of a job with these bounds, after all of its equations, put in `state`, whatever that has.
+pub fn families(job: LawfulJob, bounds: &[Bounds; 256], state: &mut State)
+    requires { BoundedBy bounds.now job.job.shape.variables }
+    ensures { Families (with_bounds (job_of job.entry.job.bytes.now) bounds.now) state.new }
 {
-    let mut components = Components::apart(n);
-    range::start(bounds, &mut state.runs, n);
-    for k in 0..m {
-        let e = Equation::read(job, n, k).normal();
+    let job = job.job;
+    let mut components = Components::apart(job.shape.variables);
+    range::start(bounds, &mut state.runs, job.shape.variables);
+    for k in 0..job.shape.equations {
+        let e = job.equation(k).normal();
         let l = components.label(e.left);
         let r = components.label(e.right);
         let p = reduce::run_of(&components, &state.runs, e.left);

@@ -1,13 +1,12 @@
 //! How a job hangs together, by one pass over its equations: all that the map shows, and the components by their lowest variables.
 
 ghost use Rattle.std.specs.Prelude.{◌≡◌};
-ghost use Rattle.jobs.specs.Job.{job_of, variable_count, equation_count};
-ghost use Rattle.jobs.specs.Lawful.{Lawful};
+ghost use Rattle.jobs.specs.Job.{job_of};
 ghost use Rattle.jobs.specs.Structure.{kind_by};
 ghost use Rattle.solver.specs.Structured.{number_of, Structured, added};
 
 use crate::components::Components;
-use jobs::Equation;
+use jobs::LawfulJob;
 
 /// The kind of an equation, by the numbers that the map has for them.
 #[derive(Clone, Copy)]
@@ -45,17 +44,15 @@ pub struct Structure {
     pub kinds: [Kind; 1024],
 }
 
-/// The structure of a job with n variables and m equations, put in `found`, whatever that has.
-pub fn of_job(job: &[u8], n: usize, m: usize, found: &mut Structure)
-    requires lawful { Lawful job.now }
-    requires n_value { n ≡ variable_count job.now }
-    requires m_value { m ≡ equation_count job.now }
-    ensures { Structured (job_of job.now) m n found.new }
+/// The structure of a job, put in `found`, whatever that has.
+pub fn of_job(job: LawfulJob, found: &mut Structure)
+    ensures { Structured (job_of job.entry.job.bytes.now) job.entry.job.shape.equations job.entry.job.shape.variables found.new }
 {
-    let mut components = Components::apart(n);
+    let job = job.job;
+    let mut components = Components::apart(job.shape.variables);
     found.degrees = [0; 256];
-    for k in 0..m {
-        let e = Equation::read(job, n, k);
+    for k in 0..job.shape.equations {
+        let e = job.equation(k);
         let row = e.normal();
         let l = components.label(row.left);
         let r = components.label(row.right);

@@ -13,33 +13,29 @@ use Rattle.lists.specs.Table.{Tabulates}
 use Rattle.runs.specs.Run.{empty}
 use Rattle.solver.specs.StateArrays.{label_in}
 use Rattle.solver.specs.Runs.{gathered}
-use Rattle.solver.proofs.LawfulRows.{n_most}
 use Rattle.solver.proofs.CodeFollowsModel.{Follows, At, left_below, right_below, combinable, limits, left_family, right_family, Follows-same, reducible, Follows-reduced}
 use Rattle.solver.proofs.FollowsWithBounds.{Follows-start, Follows-end, at_row}
 use Rattle.solver.proofs.equations.families.Goals.{After-normal-e, After-leaves, in-Some, in_default}
 use Rattle.solver.proofs.equations.families.Goals as goal
 
-pub apart-components-requires : goal.apart-components-requires
-apart-components-requires c = n_most (c.requires.lawful, (c.requires.n_value, c.requires.m_value))
-
 pub loop-k-init : goal.loop-k-init
 loop-k-init c = record {
   as_many = c.apart-components.ensures.so_many;
-  follows = Follows-start (c.requires.lawful, (c.requires.n_value, c.requires.m_value)) c.args.bounds.now c.requires.bounded_by
+  follows = Follows-start (c.args.job.lawful, (c.args.job.job.variables_counted, c.args.job.job.equations_counted)) c.args.bounds.now c.requires
       c.apart-components.result.labels c.start.new.runs c.apart-components.ensures.apart c.start.ensures;
 }
 
 -- with a row in hand, in normal form
 module _ (c : After-normal-e) where
   abbrev job : Job
-  job = with_bounds (job_of c.args.job.now) c.args.bounds.now
+  job = with_bounds (job_of c.args.job.job.bytes.now) c.args.bounds.now
 
-  row_is : c.normal-e.result ≡ normal_row (job_of c.args.job.now) c.loop-k.k
-  row_is = c.normal-e.ensures ∙ ap normal c.read.ensures
+  row_is : c.normal-e.result ≡ normal_row (job_of c.args.job.job.bytes.now) c.loop-k.k
+  row_is = c.normal-e.ensures ∙ ap normal c.equation.ensures
 
   at : At job c.loop-k.components.variables c.loop-k.k c.loop-k.components.labels c.loop-k.state.runs c.normal-e.result
   at = subst (λ n. At job n c.loop-k.k c.loop-k.components.labels c.loop-k.state.runs c.normal-e.result) (sym c.loop-k.invariant.as_many)
-      (at_row (c.requires.lawful, (c.requires.n_value, c.requires.m_value)) c.args.bounds.now c.requires.bounded_by c.loop-k-test.true c.loop-k.invariant.follows row_is)
+      (at_row (c.args.job.lawful, (c.args.job.job.variables_counted, c.args.job.job.equations_counted)) c.args.bounds.now c.requires c.loop-k-test.true c.loop-k.invariant.follows row_is)
 
 pub label-l-requires : goal.label-l-requires
 label-l-requires c = left_below (at (goal.at.label-l-requires c).After-normal-e)
@@ -98,7 +94,7 @@ loop-k-preserved c =
 
 pub returns : goal.returns
 returns c = let l = c.loop-k in
-    let e : l.k ≡ c.args.m = omega arith in
-    Follows-end (c.requires.lawful, (c.requires.n_value, c.requires.m_value)) c.args.bounds.now c.requires.bounded_by l.components.labels l.state.runs c.fill.new.runs
-    (subst (λ k. Follows (with_bounds (job_of c.args.job.now) c.args.bounds.now) k l.components.labels l.state.runs) e l.invariant.follows)
+    let e : l.k ≡ c.args.job.job.shape.equations = omega arith in
+    Follows-end (c.args.job.lawful, (c.args.job.job.variables_counted, c.args.job.job.equations_counted)) c.args.bounds.now c.requires l.components.labels l.state.runs c.fill.new.runs
+    (subst (λ k. Follows (with_bounds (job_of c.args.job.job.bytes.now) c.args.bounds.now) k l.components.labels l.state.runs) e l.invariant.follows)
     (subst (λ n. Tabulates empty (gathered l.components.labels l.state.runs) n c.fill.new.runs) l.invariant.as_many c.fill.ensures)

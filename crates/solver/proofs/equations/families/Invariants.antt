@@ -6,4 +6,4 @@ use Rattle.solver.proofs.CodeFollowsModel.{Follows}
 use Rattle.solver.proofs.equations.families.Given as goal
 
 abbrev pub invariant-loop-k : goal.invariant-loop-k
-invariant-loop-k l = record { as_many : l.components.variables ≡ l.n; follows : Follows (with_bounds (job_of l.job) l.bounds) l.k l.components.labels l.state.runs }
+invariant-loop-k l = record { as_many : l.components.variables ≡ l.job.shape.variables; follows : Follows (with_bounds (job_of l.job.bytes.now) l.bounds) l.k l.components.labels l.state.runs }

@@ -10,7 +10,6 @@ use Rattle.jobs.specs.NormalForm.{normal, normal_row}
 use Rattle.solver.specs.Labels.{Labels, Merges}
 use Rattle.solver.specs.StateArrays.{label_in}
 use Rattle.solver.proofs.CodeFollowsModel.{labels_start, labels_joined}
-use Rattle.solver.proofs.LawfulRows.{n_most}
 use Rattle.solver.proofs.StructurePass.{Row, row, begins, onward}
 use Rattle.solver.proofs.structure.of_job.Goals.{After-normal-row}
 use Rattle.solver.proofs.structure.of_job.Goals as goal
@@ -18,14 +17,14 @@ use Rattle.solver.proofs.structure.of_job.Goals as goal
 pub loop-k-init : goal.loop-k-init
 loop-k-init c = let labels = c.apart-components.result.labels in (
   c.apart-components.ensures.so_many,
-  begins (job_of c.args.job.now) c.args.n labels _ _
-      (labels_start (job_of c.args.job.now) c.args.n labels (n_most (c.requires.lawful, (c.requires.n_value, c.requires.m_value))) c.apart-components.ensures.apart)
+  begins (job_of c.args.job.job.bytes.now) c.args.job.job.shape.variables labels _ _
+      (labels_start (job_of c.args.job.job.bytes.now) c.args.job.job.shape.variables labels c.args.job.job.shape.few_variables c.apart-components.ensures.apart)
       (search rules) (search rules),
 )
 
 -- with a row in hand, as it is written and in normal form
-here : (c : After-normal-row) → Row c.args.n c.loop-k.k c.loop-k.found.degrees c.read-e.result c.normal-row.result
-here c = row (c.requires.lawful, (c.requires.n_value, c.requires.m_value)) (omega arith) c.loop-k.invariant.1 c.read-e.result c.normal-row.result c.read-e.ensures c.normal-row.ensures
+here : (c : After-normal-row) → Row c.args.job.job.shape.variables c.loop-k.k c.loop-k.found.degrees c.equation-e.result c.normal-row.result
+here c = row (c.args.job.lawful, (c.args.job.job.variables_counted, c.args.job.job.equations_counted)) (omega arith) c.loop-k.invariant.1 c.equation-e.result c.normal-row.result c.equation-e.ensures c.normal-row.ensures
 
 pub label-l-requires : goal.label-l-requires
 label-l-requires c = omega (arith, (here (goal.at.label-l-requires c).After-normal-row).home, c.loop-k.invariant.0)
@@ -52,7 +51,7 @@ joined j k {n} {labels = labels} {after = after} {x = x} a is p q u v w merges =
 pub loop-k-preserved : goal.loop-k-preserved
 loop-k-preserved c = let r = here (goal.at.loop-k-preserved c).After-normal-row in (
   omega (arith, c.join.ensures.as_many, c.loop-k.invariant.0),
-  onward c.loop-k.invariant.1 c.read-e.result c.normal-row.result c.read-e.ensures c.normal-row.ensures r c.join.new.self.labels
-      (joined (job_of c.args.job.now) c.loop-k.k c.loop-k.invariant.1.labelled (c.normal-row.ensures ∙ ap normal c.read-e.ensures) r.home r.other c.label-l.ensures.value c.label-r.ensures.value c.loop-k.invariant.0 c.join.ensures.merges)
+  onward c.loop-k.invariant.1 c.equation-e.result c.normal-row.result c.equation-e.ensures c.normal-row.ensures r c.join.new.self.labels
+      (joined (job_of c.args.job.job.bytes.now) c.loop-k.k c.loop-k.invariant.1.labelled (c.normal-row.ensures ∙ ap normal c.equation-e.ensures) r.home r.other c.label-l.ensures.value c.label-r.ensures.value c.loop-k.invariant.0 c.join.ensures.merges)
       c.is_binary.result c.is_binary.ensures c.label-l.ensures.value c.label-r.ensures.value c.of.result c.of.ensures c.added.result c.added.ensures,
 )
