@@ -56,7 +56,7 @@ carried_form : (e : Equation) (Q q r : Run) → CarryLimits e → FamilyRun Q �
 carried_form e Q q r lim f d h = subst OneForm (sym (h ∙ ap (carry e.a e.b e.c) d)) (carry_form lim (upward_form f))
 
 pub meet-common-requires : goal.meet-common-requires
-meet-common-requires c = record { one_form = subst OneForm (sym c.upward-left.ensures) (upward_form c.requires.left_family); one_form_2 = carried_form c.args.e c.args.q c.upward-right.result c.carry.result c.requires.carry_limits c.requires.right_family c.upward-right.ensures c.carry.ensures }
+meet-common-requires c = record { one_form = subst OneForm (sym c.upward-left.ensures) (upward_form c.requires.left_family); other_one_form = carried_form c.args.e c.args.q c.upward-right.result c.carry.result c.requires.carry_limits c.requires.right_family c.upward-right.ensures c.carry.ensures }
 
 -- after the meeting
 module _ (c : After-meet-common) where
