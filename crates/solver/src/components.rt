@@ -9,6 +9,7 @@ ghost use Rattle.families.specs.ModelFindings.{leads_by, component_by};
 
 /// The components of so many variables, while equations are taken in: each variable is labelled with the lowest of its component, and
 /// the variables of a component lie from there to the one that `lasts` has at the lowest.
+// Two arrays rather than one of pairs: `State` and `Structure` take over the labels alone.
 #[derive(Drop)]
 pub(crate) struct Components {
     pub variables: usize,

@@ -8,6 +8,7 @@ use jobs::{Accepted, Bounds};
 
 /// What the rows of a job's variables say, put in the two arrays by variable: the weights, and the bounds in force, those of its
 /// amendments in place of their own.
+// Two arrays: `equations::families` takes the bounds alone, which may come from elsewhere.
 pub fn in_force(accepted: Accepted, bounds: &mut [Bounds; 256], weights: &mut [i64; 256])
     ensures bounds_of { BoundsOf (amended accepted.entry.job.job.bytes.now accepted.entry.amendments.bytes.now) accepted.entry.job.job.shape.variables bounds.new }
     ensures weights_of { WeightsOf (amended accepted.entry.job.job.bytes.now accepted.entry.amendments.bytes.now) accepted.entry.job.job.shape.variables weights.new }
