@@ -27,6 +27,7 @@ pub(crate) fn run_of(components: &Components, runs: &[Run; 256], i: usize) -> Ru
 }
 
 // Of the families of the components l and r those members at their indices stay.
+#[tactic(auto, using(crate::proofs::ReducedRuns::both_two))]
 pub(crate) fn both(components: &Components, runs: &mut [Run; 256], l: u16, r: u16, kept: Indices)
     requires left_leads { Leads components.now.labels components.now.variables l }
     requires right_leads { Leads components.now.labels components.now.variables r }

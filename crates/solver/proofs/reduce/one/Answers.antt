@@ -5,12 +5,9 @@ use native.Mathlib.Omega.{arith}
 use borrow.Author.Rules.{rules}
 use Rattle.families.specs.FamilyRun.{FamilyRun}
 use Rattle.families.specs.Model.{through}
-use Rattle.solver.proofs.ReducedRuns.{setting_out, standing, walked, passed_by, arrived, staying}
+use Rattle.solver.proofs.ReducedRuns.{standing, walked, passed_by}
 use Rattle.solver.proofs.reduce.one.Goals.{then-components-i, else-components-i}
 use Rattle.solver.proofs.reduce.one.Goals as goal
-
-pub loop-i-init : goal.loop-i-init
-loop-i-init c = let x = c.args.components.now in setting_out c.args.runs.now c.args.kept x.spans c.requires.leads x.few c.told-runs
 
 pub through-part-requires : goal.through-part-requires
 through-part-requires c =
@@ -35,11 +32,3 @@ loop-i-preserved c =
           w.through-part.result (w.through-part.ensures ∙ ap (λ run. through run c.args.kept) is) (search rules) (search rules))
       | else-components-i w ↦ rw w.runs-is (passed_by c.args.runs.now c.args.kept x.spans c.requires.leads x.few c.told-runs l.i w.if-components-i.false l.runs l.invariant)
     ]
-
-pub returns : goal.returns
-returns c = let x = c.args.components.now in
-    arrived c.args.runs.now c.args.kept x.spans c.requires.leads x.few c.told-runs c.loop-i.i c.loop-i-test.false c.loop-i.auto.i-end c.loop-i.runs c.loop-i.invariant
-
-pub returns-then-stay : goal.returns-then-stay
-returns-then-stay c = let x = c.args.components.now in
-    staying c.args.runs.now c.args.kept x.spans c.requires.leads x.few c.told-runs c.requires.reducible (c.stay.ensures c.if-stay.true)
