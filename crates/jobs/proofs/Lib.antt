@@ -5,8 +5,6 @@
 pub mod JobOf
 -- an equation in normal form: `normal-value`, `normal-home`, `Binary-iff`
 pub mod NormalForm
--- what a branch on a test says
-pub mod Branches
 -- the first member of a list of which a statement holds: `First-iff`
 pub mod FirstOf
 -- the checks of the header, one after the other
