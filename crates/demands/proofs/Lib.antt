@@ -1,4 +1,4 @@
 -- What the variants of the planner rest on.
 
--- what is promised of one verdict and area is promised of equal ones: `turned_early`, `passed_on`, `again`
+-- a job without a whole header, turned away early: `early_turns_away`, `early_gives_fits`
 pub mod Carried

@@ -3,30 +3,26 @@
 ghost use Rattle.jobs.specs.Call.{call_of};
 ghost use Rattle.jobs.specs.Demands.{CannotBeBettered};
 ghost use Rattle.planner.specs.Outcome.{verdict_of};
-ghost use Rattle.planner.specs.Lending.{areas_in};
+ghost use Rattle.planner.specs.Lending.{lent_in, SameBorrows};
 
 use crate::rewrite;
-use planner::{Lent, Outcome};
+use planner::{Areas, Outcome};
 
 /// Plans a job with its amendments: any bytes, and any areas.
-pub fn plan(job: &[u8], amendments: &[u8], area: &mut [u8], map: &mut [u8], lent: Lent) -> Outcome
-    ensures { CannotBeBettered (call_of job.now amendments.now (areas_in lent area.old map.old)) (verdict_of result) (areas_in lent area.new map.new) }
+pub fn plan(job: &[u8], amendments: &[u8], areas: &mut Areas) -> Outcome
+    ensures same { SameBorrows areas.old areas.new }
+    ensures cannot_be_bettered { CannotBeBettered (call_of job.now amendments.now (lent_in areas.old)) (verdict_of result) (lent_in areas.new) }
 {
-    planner::plan(job, amendments, area, map, lent)
+    planner::plan(job, amendments, areas)
 }
 
 // Bytes of a sheet are written again: the number of count 0, and that of count 1 in a group apart from it.
-fn plan_rewritten(
-    job: &[u8],
-    amendments: &[u8],
-    area: &mut [u8],
-    map: &mut [u8],
-    lent: Lent,
-) -> Outcome
-    ensures { CannotBeBettered (call_of job.now amendments.now (areas_in lent area.old map.old)) (verdict_of result) (areas_in lent area.new map.new) }
+fn plan_rewritten(job: &[u8], amendments: &[u8], areas: &mut Areas) -> Outcome
+    ensures { CannotBeBettered (call_of job.now amendments.now (lent_in areas.old)) (verdict_of result) (lent_in areas.new) }
 {
     let low = rewrite::get(job, 36);
-    let outcome = planner::plan(job, amendments, area, map, lent);
+    let outcome = planner::plan(job, amendments, areas);
+    let area = &mut *areas.sheet;
     let planned = rewrite::is_planned(outcome);
     let first = rewrite::get(area, 24);
     rewrite::put(area, planned, 24, first);

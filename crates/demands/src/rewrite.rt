@@ -10,17 +10,15 @@ use planner::Outcome;
 pub(crate) fn get(s: &[u8], at: usize) -> u8
     ensures { result ≡ get_or s.now at 0 }
 {
-    if at < s.len() { s[at] } else { 0 }
+    s.get(at).copied().unwrap_or(0)
 }
 
 // A byte written at a place, if it is told to; past the end nothing is.
 pub(crate) fn put(area: &mut [u8], told: bool, at: usize, x: u8)
     ensures { area.new ≡ cond told (set area.old at x) area.old }
 {
-    if told {
-        if at < area.len() {
-            area[at] = x;
-        }
+    if told && at < area.len() {
+        area[at] = x;
     }
 }
 
@@ -28,38 +26,24 @@ pub(crate) fn put(area: &mut [u8], told: bool, at: usize, x: u8)
 pub(crate) fn is_planned(outcome: Outcome) -> bool
     ensures { result ≡ is_planned (verdict_of outcome) }
 {
-    match outcome {
-        Outcome::Planned(_) => true,
-        Outcome::NoFit(_) => false,
-        Outcome::Refused(_) => false,
-    }
+    matches!(outcome, Outcome::Planned(_))
 }
 
 // Is there no fit?
 pub(crate) fn is_unfit(outcome: Outcome) -> bool {
-    match outcome {
-        Outcome::Planned(_) => false,
-        Outcome::NoFit(_) => true,
-        Outcome::Refused(_) => false,
-    }
+    matches!(outcome, Outcome::NoFit(_))
 }
 
 // Is it the sheet of one count?
 pub(crate) fn is_single(outcome: Outcome, area: &[u8]) -> bool
     ensures { result ≡ is_single (verdict_of outcome) area.now }
 {
-    if is_planned(outcome) {
-        return get(area, 4) == 1;
-    }
-    false
+    is_planned(outcome) && get(area, 4) == 1
 }
 
 // Is count 1 in another group than count 0, which is in group 0?
 pub(crate) fn is_apart(outcome: Outcome, area: &[u8]) -> bool
     ensures { result ≡ is_apart (verdict_of outcome) area.now }
 {
-    if is_planned(outcome) {
-        return get(area, 52) != 0;
-    }
-    false
+    is_planned(outcome) && get(area, 52) != 0
 }

@@ -29,7 +29,7 @@ pub(crate) fn outcome_for(outcome: Outcome) -> FitOutcome
             count: 0,
             reason: 0,
             row: 0,
-            worth: worth,
+            worth,
         },
         Outcome::NoFit(count) => FitOutcome {
             kind: 2,

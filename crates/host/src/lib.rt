@@ -14,6 +14,7 @@ ghost use Rattle.jobs.specs.Demands.{UntouchedUnless};
 ghost use Rattle.planner.specs.Lending.{areas_in};
 ghost use Rattle.host.specs.Answers.{lent_by, PlansFor, checked_for, quotient_for, run_for, equation_for, working_for};
 
+use planner::Areas;
 use runs::Equation;
 
 // the structs of the answers, made of what the planner and the workings answer
@@ -78,7 +79,12 @@ pub fn fit_plan_v2(
     ensures plans_for { PlansFor (call_of job.now amendments.now (areas_in (lent_by lent) area.old map.old)) result (areas_in (lent_by lent) area.new map.new) }
     ensures untouched_unless { UntouchedUnless (lent_by lent).map map.old map.new }
 {
-    let outcome = planner::plan(job, amendments, area, map, answers::lent_by(lent));
+    let mut areas = Areas {
+        sheet: &mut *area,
+        map: &mut *map,
+        lent: answers::lent_by(lent),
+    };
+    let outcome = planner::plan(job, amendments, &mut areas);
     answers::outcome_for(outcome)
 }
 
@@ -114,6 +120,6 @@ pub fn fit_meet(a: FitRun, b: FitRun) -> FitWorking
 pub fn fit_carry(a: i64, b: i64, c: i64, q: FitRun) -> FitWorking
     ensures { result ≡ working_for (carrying (equation_for a b c) (run_for q)) }
 {
-    let e = Equation { a: a, b: b, c: c };
+    let e = Equation { a, b, c };
     answers::working_for(runs::carrying(e, answers::run_for(q)))
 }

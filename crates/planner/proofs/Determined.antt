@@ -12,6 +12,7 @@ use Rattle.reasons.specs.declared.Reason.{Reason}
 use Rattle.jobs.specs.Call.{lent_as, areas_of}
 use Rattle.jobs.specs.Verdict.{Verdict, planned, no_fit, refused}
 use Rattle.jobs.specs.Demands.{UntouchedUnless}
+use Rattle.planner.specs.Lending.{areas_in}
 use Rattle.planner.specs.Outcome.{Outcome, verdict_of, refusal_of}
 use Rattle.planner.specs.declared.Outcome.TheVariants.{Planned, NoFit, Refused}
 use Rattle.planner.proofs.plan.Kinds as plan-kinds
@@ -40,26 +41,27 @@ map_same true {s} {t} {u} {v} e p q = some-injective u v (ap (λ x. x.map) e)
 map_same false e p q = p refl ∙ sym (q refl)
 
 -- ---- what a call of `plan` is given, what it leaves, and all that its contract promises of these and of its answer; κs are the
--- lifetimes of its four references
-module _ (κs : Lfts 4) where
+-- lifetimes of its five references
+module _ (κs : Lfts 5) where
   abbrev pub Given : Type 0
   Given = Dens κs plan-kinds.ps
 
   abbrev pub Left : Type 0
-  Left = AtExit (ended_of 4 plan-kinds.ps plan-kinds.r) κs
+  Left = AtExit (ended_of 5 plan-kinds.ps plan-kinds.r) κs
 
   abbrev pub area_in : Left → List ℕ
-  area_in x = x.1.1.0.now
+  area_in x = x.1.1.0.now.sheet.now
 
   abbrev pub map_in : Left → List ℕ
-  map_in x = x.1.1.1.0.now
+  map_in x = x.1.1.0.now.map.now
 
   abbrev pub Promised : Given → Outcome → Left → Type 0
   Promised = plan-reads.Post κs
 
   pub determined : (call : Given) (r s : Outcome) (x y : Left) → Promised call r x → Promised call s y → (r ≡ s) × ((area_in x ≡ area_in y) × (map_in x ≡ map_in y))
   determined call r s x y p q =
-      let e = p.0.areas ∙ sym q.0.areas in (
-        sym (outcome_is r) ∙ ap₂ outcome_of (p.0.outcome ∙ sym q.0.outcome) (p.1.0 ∙ sym q.1.0) ∙ outcome_is s,
-        (sheet_same e, map_same call.1.1.1.1.0.map e p.1.1 q.1.1),
+      let lent = call.1.1.0.now.lent in
+      let as_lent = ap (λ l. areas_in l (area_in x) (map_in x)) (sym p.0.lent) ∙ p.1.0.areas ∙ sym q.1.0.areas ∙ ap (λ l. areas_in l (area_in y) (map_in y)) q.0.lent in (
+        sym (outcome_is r) ∙ ap₂ outcome_of (p.1.0.outcome ∙ sym q.1.0.outcome) (p.1.1.0 ∙ sym q.1.1.0) ∙ outcome_is s,
+        (sheet_same as_lent, map_same lent.map as_lent p.1.1.1 q.1.1.1),
       )

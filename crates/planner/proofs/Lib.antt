@@ -15,5 +15,7 @@ pub mod ArraysAgree
 pub mod StateOfJob
 -- what the pass over the equations says of the arrays: the map in them is the definition's (`map_is`)
 pub mod StructureOfJob
+-- what verdict and areas of the definitions promise: `promised`
+pub mod Promised
 -- two answers that meet the contract of `plan` for one call are equal: `determined`
 pub mod Determined

@@ -1,5 +1,5 @@
 -- The choice in the program: what is made of the arrays of labels, runs and weights, and so the findings that are written.
-use Rattle.std.specs.Prelude.{◌≡◌, List, ℕ, ◌≤◌, ◌<◌, ℤ, pos, ◌+ℤ◌, ◌*ℤ◌}
+use Rattle.std.specs.Prelude.{◌≡◌, List, ℕ, ◌≤◌, ◌<◌, ℤ, pos, ◌+ℤ◌, ◌*ℤ◌, Option, Some, None}
 use Rattle.ints.specs.Within.{Within}
 use Rattle.lists.specs.Sums.{sum}
 use Rattle.runs.specs.declared.Run.{Run}
@@ -9,8 +9,6 @@ use Rattle.families.specs.FamilyRun.{FamilyRun}
 use Rattle.families.specs.Family.{choice}
 use Rattle.families.specs.ModelFindings.{leads_by, component_by}
 use Rattle.solver.specs.StateArrays.{label_in, run_in}
-use Rattle.planner.specs.declared.choose.Found.{Found}
-use Rattle.planner.specs.declared.choose.Found.TheVariants.{At, Nothing}
 
 -- ---- what is asked of the arrays, for n variables
 -- each run is that of a variable in a family
@@ -32,9 +30,9 @@ pub record AllWithin (size : ℕ) (xs : List ℤ) (n : ℕ) : Type 0 where
 
 -- ---- what is made of them
 -- the first of n variables whose family is empty
-abbrev pub FirstEmpty : List Run → ℕ → Found → Type 0
-FirstEmpty runs n (At l) = (l < n) × (((run_in runs l).many ≡ 0) × NoneEmpty runs l)
-FirstEmpty runs n Nothing = NoneEmpty runs n
+abbrev pub FirstEmpty : List Run → ℕ → Option ℕ → Type 0
+FirstEmpty runs n (Some l) = (l < n) × (((run_in runs l).many ≡ 0) × NoneEmpty runs l)
+FirstEmpty runs n None = NoneEmpty runs n
 
 -- a variable's number, where a step along its component's family gains so much
 abbrev pub number_at : Run → ℤ → ℤ

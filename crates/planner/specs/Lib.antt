@@ -6,6 +6,7 @@ pub mod Outcome
 pub mod Lending
 -- the choice, and what is found
 pub mod Choice
+pub mod Chosen
 -- how the job hangs together, for the map
 pub mod Mapping
 -- whether the areas are long enough, and the map written

@@ -1,64 +1,31 @@
 //! The choice in each component, and what it comes to.
 
-ghost use Rattle.std.specs.Prelude.{◌≡◌, ◌≤◌, pos};
+ghost use Rattle.std.specs.Prelude.{◌≡◌, ◌≤◌, pos, length};
 ghost use Rattle.lists.specs.Table.{Tabulates};
 ghost use Rattle.jobs.specs.Solution.{number};
 ghost use Rattle.families.specs.FamilyRun.{FamilyRun};
 ghost use Rattle.families.specs.Family.{choice};
-ghost use Rattle.families.specs.ModelFindings.{slope_by};
+ghost use Rattle.families.specs.ModelFindings.{leads_by, slope_by};
 ghost use Rattle.solver.specs.StateArrays.{label_in, run_in};
-ghost use Rattle.solver.specs.Labels.{Labelled};
-ghost use Rattle.planner.specs.Choice.{FamilyRuns, NoneEmpty, AllWithin, FirstEmpty, number_at, number_in, objective_in};
+ghost use Rattle.solver.specs.Labels.{Lowest};
+ghost use Rattle.planner.specs.Choice.{Members, NoneEmpty, AllWithin, FirstEmpty, number_at, number_in, objective_in};
 
 use runs::Run;
-
-/// The first component without a fit, by its lowest variable, or that there is none.
-#[derive(Clone, Copy)]
-pub enum Found {
-    At(u16),
-    Nothing,
-}
+use solver::State;
 
 // The first of n variables that no number fits: the lowest of its component, since all variables of a component have equally many.
-pub(crate) fn first_empty(runs: &[Run; 256], n: usize) -> Found
+pub(crate) fn first_empty(runs: &[Run; 256], n: usize) -> Option<u16>
     requires { n ≤ 256 }
     ensures { FirstEmpty runs.now n result }
 {
-    let mut i: usize = 0;
-    loop {
-        if i == n {
-            break Found::Nothing;
+    let mut empty = None;
+    for i in 0..n {
+        if runs[i].many == 0 {
+            empty = Some(i as u16);
+            break;
         }
-        let run = runs[i];
-        if run.many == 0 {
-            break Found::At(i as u16);
-        }
-        i += 1;
     }
-}
-
-// The slope of each component, at its lowest variable: what a step along its family adds to the objective.
-pub(crate) fn slopes(
-    weights: &[i64; 256],
-    labels: &[u16; 256],
-    runs: &[Run; 256],
-    n: usize,
-) -> [i64; 256]
-    requires n_bound { n ≤ 256 }
-    requires all_within { AllWithin 1000000 weights.now n }
-    requires labelled { Labelled labels.now n }
-    requires family_runs { FamilyRuns runs.now n }
-    ensures { Tabulates (pos 0) (slope_by n (number weights.now) (label_in labels.now) (run_in runs.now)) n result }
-{
-    let mut slopes: [i64; 256] = [0; 256];
-    let mut i: usize = 0;
-    while i < n {
-        let run = runs[i];
-        let l = labels[i] as usize;
-        slopes[l] = slopes[l] + weights[i] * run.step;
-        i += 1;
-    }
-    slopes
+    empty
 }
 
 // The index of the member that is chosen: the first where each step loses, and the last elsewhere.
@@ -72,49 +39,70 @@ pub(crate) fn choice(slope: i64, many: u32) -> u32
 // A variable's number in the member that is chosen.
 fn number(run: Run, slope: i64) -> i64
     requires family_run { FamilyRun run }
-    requires le_many { 1 ≤ run.many }
+    requires some { 1 ≤ run.many }
     ensures { result ≡ number_at run slope }
 {
     run.first + run.step * choice(slope, run.many) as i64
 }
 
-// The number of each of n variables.
-pub(crate) fn numbers(
-    labels: &[u16; 256],
-    runs: &[Run; 256],
-    slopes: &[i64; 256],
-    n: usize,
-) -> [i64; 256]
-    requires n_bound { n ≤ 256 }
-    requires labelled { Labelled labels.now n }
-    requires family_runs { FamilyRuns runs.now n }
-    requires none_empty { NoneEmpty runs.now n }
-    ensures { Tabulates (pos 0) (number_in labels.now runs.now slopes.now) n result }
-{
-    let mut numbers: [i64; 256] = [0; 256];
-    let mut i: usize = 0;
-    while i < n {
-        let run = runs[i];
-        let l = labels[i] as usize;
-        let x = number(run, slopes[l]);
-        numbers[i] = x;
-        i += 1;
-    }
-    numbers
+/// The families of so many variables, with a weight each, in so many components; each component has a fit.
+#[derive(Clone, Copy)]
+pub(crate) struct Families<'s> {
+    pub state: &'s State,
+    pub weights: &'s [i64; 256],
+    pub variables: usize,
+    pub components: usize,
+    ghost few: { variables ≤ 256 },
+    ghost weights_small: { AllWithin 1000000 weights.now variables },
+    ghost lowest: { Lowest state.now.labels variables },
+    ghost members: { Members state.now.labels state.now.runs variables },
+    ghost none_empty: { NoneEmpty state.now.runs variables },
+    ghost counted: { components ≡ length (leads_by (label_in state.now.labels) variables) },
 }
 
-// What these numbers are worth.
-pub(crate) fn objective(weights: &[i64; 256], numbers: &[i64; 256], n: usize) -> i64
-    requires n_bound { n ≤ 256 }
-    requires all_within { AllWithin 1000000 weights.now n }
-    requires all_within_2 { AllWithin 2000000000 numbers.now n }
-    ensures { result ≡ objective_in weights.now numbers.now n }
-{
-    let mut objective: i64 = 0;
-    let mut i: usize = 0;
-    while i < n {
-        objective = objective + weights[i] * numbers[i];
-        i += 1;
+impl Families<'_> {
+    // The slope of each component, at its lowest variable: what a step along its family adds to the objective.
+    pub(crate) fn slopes(self) -> [i64; 256]
+        ensures { Tabulates (pos 0) (slope_by self.entry.variables (number self.entry.weights.now) (label_in self.entry.state.now.labels) (run_in self.entry.state.now.runs)) self.entry.variables result }
+    {
+        let mut slopes = [0; 256];
+        for i in 0..self.variables {
+            slopes[self.state.labels[i] as usize] += self.weights[i] * self.state.runs[i].step;
+        }
+        slopes
     }
-    objective
+
+    // The number of each variable.
+    pub(crate) fn numbers(self, slopes: &[i64; 256]) -> [i64; 256]
+        ensures chosen { Tabulates (pos 0) (number_in self.entry.state.now.labels self.entry.state.now.runs slopes.now) self.entry.variables result }
+        ensures numbers_small { AllWithin 1000000000 result self.entry.variables }
+    {
+        let mut numbers = [0; 256];
+        for i in 0..self.variables {
+            numbers[i] = number(self.state.runs[i], slopes[self.state.labels[i] as usize]);
+        }
+        numbers
+    }
+
+    // What these numbers are worth.
+    pub(crate) fn worth(self, numbers: &[i64; 256]) -> i64
+        requires { AllWithin 1000000000 numbers.now self.variables }
+        ensures { result ≡ objective_in self.entry.weights.now numbers.now self.entry.variables }
+    {
+        let mut worth = 0;
+        for i in 0..self.variables {
+            worth += self.weights[i] * numbers[i];
+        }
+        worth
+    }
+}
+
+/// What is chosen of them: a slope for each component, at its lowest variable, a number for each variable, and their worth.
+#[derive(Clone, Copy)]
+pub(crate) struct Chosen<'s, 'c> {
+    pub families: Families<'s>,
+    pub slopes: &'c [i64; 256],
+    pub numbers: &'c [i64; 256],
+    pub worth: i64,
+    ghost numbers_small: { AllWithin 1000000000 numbers.now families.variables },
 }

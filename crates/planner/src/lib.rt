@@ -3,7 +3,7 @@
 //! Read `specs/Lib.antt`, then this file, then the modules in the order in which they are listed.
 #![tactic(auto)]
 
-ghost use Rattle.std.specs.Prelude.{◌≡◌, ◌+◌, ◌*◌, ◌≤◌, length};
+ghost use Rattle.std.specs.Prelude.{◌≡◌, ◌+◌, ◌*◌, ◌≤◌, ◌↔◌, IsTrue, length};
 ghost use Rattle.std.proofs.Math.Option.{none};
 ghost use Rattle.jobs.specs.Call.{call_of, lending_nothing};
 ghost use Rattle.jobs.specs.Job.{job_of, variable_count, equation_count};
@@ -12,6 +12,7 @@ ghost use Rattle.jobs.specs.Solution.{number};
 ghost use Rattle.jobs.specs.Component.{component_count};
 ghost use Rattle.jobs.specs.SheetOffsets.{sheet_length};
 ghost use Rattle.jobs.specs.Lawful.{Lawful};
+ghost use Rattle.jobs.specs.ReasonTable.{Shorter};
 ghost use Rattle.jobs.specs.Faults.{first_broken};
 ghost use Rattle.jobs.specs.Findings.{findings};
 ghost use Rattle.jobs.specs.Verdict.{planned, fitting, verdict};
@@ -23,11 +24,11 @@ ghost use Rattle.solver.specs.StateArrays.{label_in, run_in};
 ghost use Rattle.solver.specs.Labels.{Lowest};
 ghost use Rattle.little_endian.specs.Over.{over};
 ghost use Rattle.planner.specs.Choice.{Members, NoneEmpty, AllWithin};
-ghost use Rattle.planner.specs.Outcome.{verdict_of, refusal_of};
-ghost use Rattle.planner.specs.Lending.{areas_in};
+ghost use Rattle.planner.specs.Outcome.{verdict_of, refusal_of, outcome_of, fit_verdict};
+ghost use Rattle.planner.specs.Lending.{lent_in, SameBorrows};
 ghost use Rattle.planner.specs.Survey.{Surveyed};
 
-use choose::Found;
+use choose::{Chosen, Families};
 use jobs::{Bounds, Checked, header};
 use reasons::Reason;
 use runs::Run;
@@ -54,15 +55,11 @@ pub enum Outcome {
     Refused(Reason),
 }
 
-/// What the areas of a call have room for.
+// What the plan of a job comes to that is not refused.
 #[derive(Clone, Copy)]
-pub enum Survey {
-    /// The answer area is too short for the sheet; nothing is written.
-    ShortArea,
-    /// A map area is lent, and too short for the map; nothing is written.
-    ShortMap,
-    /// All are long enough, and the map is written where one is lent; so many components there are.
-    Mapped(usize),
+enum Fit {
+    Planned(i64),
+    NoFit(u16),
 }
 
 /// Which of the areas that a call may lend it does lend. The answer area is always lent.
@@ -71,48 +68,71 @@ pub struct Lent {
     pub map: bool,
 }
 
+/// The areas of a planning call: the answer area, for the sheet, and the map area, which is any slice where it is not lent.
+#[derive(Drop)]
+pub struct Areas<'s, 'm> {
+    pub sheet: &'s mut [u8],
+    pub map: &'m mut [u8],
+    pub lent: Lent,
+}
+
+impl Areas<'_, '_> {
+    // Is the map area lent, and shorter than this?
+    fn is_map_short(&self, length: usize) -> bool
+        ensures { IsTrue result ↔ Shorter (lent_in self.now).map length }
+    {
+        self.lent.map && self.map.len() < length
+    }
+}
+
 /// Plans a job with its amendments: any bytes, and any areas. The verdict and the areas afterwards are those of the definitions, and they
 /// keep the demands of the service port, of the installer, of the buyer and of the repair bench; a refusal has the first reason of the
 /// table whose rule is broken. A map area that is not lent stays as it is.
-pub fn plan(job: &[u8], amendments: &[u8], area: &mut [u8], map: &mut [u8], lent: Lent) -> Outcome
-    ensures plans { Plans (call_of job.now amendments.now (areas_in lent area.old map.old)) (verdict_of result) (areas_in lent area.new map.new) }
-    ensures result_value { refusal_of result ≡ first_broken (call_of job.now amendments.now (areas_in lent area.old map.old)) }
-    ensures untouched_unless { UntouchedUnless lent.map map.old map.new }
+pub fn plan(job: &[u8], amendments: &[u8], areas: &mut Areas) -> Outcome
+    ensures same { SameBorrows areas.old areas.new }
+    ensures plans { Plans (call_of job.now amendments.now (lent_in areas.old)) (verdict_of result) (lent_in areas.new) }
+    ensures first_broken_rule { refusal_of result ≡ first_broken (call_of job.now amendments.now (lent_in areas.old)) }
+    ensures unlent { UntouchedUnless areas.old.lent.map areas.old.map.now areas.new.map.now }
 {
-    let checked = jobs::check_amended(job, amendments);
-    match checked {
-        Checked::Refused(reason) => Outcome::Refused(reason),
-        Checked::Accepted => fitted(job, amendments, area, map, lent),
+    match attempt(job, amendments, areas) {
+        Ok(Fit::Planned(worth)) => Outcome::Planned(worth),
+        Ok(Fit::NoFit(variable)) => Outcome::NoFit(variable),
+        Err(reason) => Outcome::Refused(reason),
     }
 }
 
-// The plan of a job that the check accepts, with its amendments. Whether the areas are long enough is asked before any fit is sought and
-// anything written.
-fn fitted(job: &[u8], amendments: &[u8], area: &mut [u8], map: &mut [u8], lent: Lent) -> Outcome
-    requires { first_broken (lending_nothing job.now amendments.now) ≡ none }
-    ensures result_value { verdict_of result ≡ verdict (call_of job.now amendments.now (areas_in lent area.old map.old)) }
-    ensures map_after { areas_in lent area.new map.new ≡ areas_after (call_of job.now amendments.now (areas_in lent area.old map.old)) }
-    ensures result_value_2 { refusal_of result ≡ first_broken (call_of job.now amendments.now (areas_in lent area.old map.old)) }
-    ensures untouched_unless { UntouchedUnless lent.map map.old map.new }
+// The plan, or why there is none. Whether the areas are long enough is asked before any fit is sought and anything written.
+fn attempt(job: &[u8], amendments: &[u8], areas: &mut Areas) -> Result<Fit, Reason>
+    ensures same { SameBorrows areas.old areas.new }
+    ensures plans { Plans (call_of job.now amendments.now (lent_in areas.old)) (verdict_of (outcome_of result)) (lent_in areas.new) }
+    ensures first_broken_rule { refusal_of (outcome_of result) ≡ first_broken (call_of job.now amendments.now (lent_in areas.old)) }
+    ensures unlent { UntouchedUnless areas.old.lent.map areas.old.map.now areas.new.map.now }
 {
+    if let Checked::Refused(reason) = jobs::check_amended(job, amendments) {
+        return Err(reason);
+    }
     let n = header::variable_count(job);
     let m = header::equation_count(job);
-    let room = area.len();
-    let survey = surveyed(job, map, lent.map, n, m, room);
-    match survey {
-        Survey::ShortArea => Outcome::Refused(Reason::ShortArea),
-        Survey::ShortMap => Outcome::Refused(Reason::ShortMap),
-        Survey::Mapped(g) => solved(job, amendments, area, n, m, g),
-    }
+    let g = surveyed(job, amendments, areas, n, m)?;
+    let sheet = &mut *areas.sheet;
+    Ok(solved(job, amendments, sheet, n, m, g))
 }
 
-// Are the answer area, of `room` bytes, and the map area, where it is lent, long enough for a job with n variables and m equations? If so,
-// the map is written. The arrays of the job's structure end here, so that their stack serves the families too.
-fn surveyed(job: &[u8], map: &mut [u8], lent: bool, n: usize, m: usize, room: usize) -> Survey
-    requires lawful { Lawful job.now }
+// The number of components of a job with n variables and m equations, where the areas are long enough for it; the map is then written,
+// if its area is lent. The arrays of the job's structure end here, so that their stack serves the families too.
+fn surveyed(
+    job: &[u8],
+    amendments: &[u8],
+    areas: &mut Areas,
+    n: usize,
+    m: usize,
+) -> Result<usize, Reason>
+    requires accepted { first_broken (lending_nothing job.now amendments.now) ≡ none }
     requires n_value { n ≡ variable_count job.now }
     requires m_value { m ≡ equation_count job.now }
-    ensures { Surveyed (job_of job.now) room lent map.old map.new result }
+    ensures same { SameBorrows areas.old areas.new }
+    ensures sheet { areas.new.sheet.now ≡ areas.old.sheet.now }
+    ensures surveyed { Surveyed job.now amendments.now areas.old areas.new.map.now result }
 {
     let mut structure = Structure {
         labels: [0; 256],
@@ -122,26 +142,28 @@ fn surveyed(job: &[u8], map: &mut [u8], lent: bool, n: usize, m: usize, room: us
     };
     structure::of_job(job, n, m, &mut structure);
     let g = components::count(&structure.labels, n);
-    if room < sheet::length(n, g) {
-        return Survey::ShortArea;
+    if areas.sheet.len() < sheet::length(n, g) {
+        return Err(Reason::ShortArea);
     }
-    if map::is_short(map, lent, n, m) {
-        return Survey::ShortMap;
+    if areas.is_map_short(map::length(n, m)) {
+        return Err(Reason::ShortMap);
     }
-    map::write(map, lent, &structure, n, m, g);
-    Survey::Mapped(g)
+    if areas.lent.map {
+        let map = &mut *areas.map;
+        map::write(map, &structure, n, m, g);
+    }
+    Ok(g)
 }
 
 // The plan of a job with n variables in g components and m equations, into an area that is long enough.
-fn solved(job: &[u8], amendments: &[u8], area: &mut [u8], n: usize, m: usize, g: usize) -> Outcome
+fn solved(job: &[u8], amendments: &[u8], area: &mut [u8], n: usize, m: usize, g: usize) -> Fit
     requires amendments_value { first_broken (lending_nothing job.now amendments.now) ≡ none }
     requires n_value { n ≡ variable_count job.now }
     requires m_value { m ≡ equation_count job.now }
     requires g_value { g ≡ component_count (amended job.now amendments.now) }
     requires amendments_in_bounds { sheet_length (amended job.now amendments.now) ≤ length area.old }
-    ensures result_value { verdict_of result ≡ fitting (amended job.now amendments.now) }
+    ensures fits { fit_verdict result ≡ fitting (amended job.now amendments.now) }
     ensures area_after { area.new ≡ sheet_after (findings (amended job.now amendments.now)) (fitting (amended job.now amendments.now)) area.old }
-    ensures result_value_2 { refusal_of result ≡ none }
 {
     let mut bounds: [Bounds; 256] = [Bounds { low: 0, high: 0 }; 256];
     let mut weights: [i64; 256] = [0; 256];
@@ -155,31 +177,35 @@ fn solved(job: &[u8], amendments: &[u8], area: &mut [u8], n: usize, m: usize, g:
         }; 256],
     };
     equations::families(job, &bounds, n, m, &mut state);
-    let empty = choose::first_empty(&state.runs, n);
-    match empty {
-        Found::At(l) => Outcome::NoFit(l),
-        Found::Nothing => written(area, &weights, &state, n, g),
+    match choose::first_empty(&state.runs, n) {
+        Some(variable) => Fit::NoFit(variable),
+        None => {
+            let families = Families {
+                state: &state,
+                weights: &weights,
+                variables: n,
+                components: g,
+            };
+            Fit::Planned(written(area, families))
+        }
     }
 }
 
-// The sheet of what is found, where every component has a fit-out; state has the families of n variables in g components.
-fn written(area: &mut [u8], weights: &[i64; 256], state: &State, n: usize, g: usize) -> Outcome
-    requires n_bound { n ≤ 256 }
-    requires all_within { AllWithin 1000000 weights.now n }
-    requires lowest { Lowest state.now.labels n }
-    requires members { Members state.now.labels state.now.runs n }
-    requires none_empty { NoneEmpty state.now.runs n }
-    requires g_value { g ≡ length (leads_by (label_in state.now.labels) n) }
-    requires g_in_bounds { 24 + 16 * n + 16 * g ≤ length area.old }
-    ensures result_value { verdict_of result ≡ planned (findings_by n (number weights.now) (label_in state.now.labels) (run_in state.now.runs)).objective }
-    ensures area_after { area.new ≡ over 0 (sheet_of (findings_by n (number weights.now) (label_in state.now.labels) (run_in state.now.runs))) area.old }
-    ensures result_value_2 { refusal_of result ≡ none }
+// The sheet of what is found, and what it is worth.
+fn written(area: &mut [u8], families: Families) -> i64
+    requires { 24 + 16 * families.variables + 16 * families.components ≤ length area.old }
+    ensures worth { result ≡ (findings_by families.entry.variables (number families.entry.weights.now) (label_in families.entry.state.now.labels) (run_in families.entry.state.now.runs)).objective }
+    ensures area_after { area.new ≡ over 0 (sheet_of (findings_by families.entry.variables (number families.entry.weights.now) (label_in families.entry.state.now.labels) (run_in families.entry.state.now.runs))) area.old }
 {
-    let labels = &state.labels;
-    let runs = &state.runs;
-    let slopes = choose::slopes(weights, labels, runs, n);
-    let numbers = choose::numbers(labels, runs, &slopes, n);
-    let objective = choose::objective(weights, &numbers, n);
-    sheet::write(area, labels, runs, &slopes, &numbers, n, g, objective);
-    Outcome::Planned(objective)
+    let slopes = families.slopes();
+    let numbers = families.numbers(&slopes);
+    let worth = families.worth(&numbers);
+    let chosen = Chosen {
+        families,
+        slopes: &slopes,
+        numbers: &numbers,
+        worth,
+    };
+    sheet::write(area, chosen);
+    worth
 }

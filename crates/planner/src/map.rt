@@ -1,9 +1,7 @@
 //! The map, written into the map area where one is lent: a header, a row for each variable, and a row for each equation.
 
-ghost use Rattle.std.specs.Prelude.{◌≡◌, true, cond, ◌↔◌, ◌+◌, ◌*◌, ◌≤◌, length, get_or};
+ghost use Rattle.std.specs.Prelude.{◌≡◌, ◌+◌, ◌*◌, ◌≤◌, length, get_or};
 ghost use Rattle.little_endian.specs.Over.{over};
-ghost use Rattle.jobs.specs.Call.{lent_as};
-ghost use Rattle.jobs.specs.ReasonTable.{Shorter};
 ghost use Rattle.jobs.specs.MapLayout.{map_header, map_row, map_rows, map_of};
 ghost use Rattle.families.specs.ModelFindings.{leads_by};
 ghost use Rattle.solver.specs.StateArrays.{label_in};
@@ -17,37 +15,17 @@ use solver::structure::Structure;
 // The mark of a map.
 const MARK: [u8; 4] = *b"MAP1";
 
-// Is a map area lent that is too short, for n variables and m equations?
-pub(crate) fn is_short(map: &[u8], lent: bool, n: usize, m: usize) -> bool
+// How long it is, for n variables and m equations.
+pub(crate) fn length(n: usize, m: usize) -> usize
     requires n_bound { n ≤ 256 }
     requires m_bound { m ≤ 1024 }
-    ensures { (result ≡ true) ↔ Shorter (lent_as lent map.now) (24 + 4 * n + 4 * m) }
+    ensures { result ≡ 24 + 4 * n + 4 * m }
 {
-    if lent {
-        map.len() < 24 + 4 * n + 4 * m
-    } else {
-        false
-    }
+    24 + 4 * n + 4 * m
 }
 
-// The map of n variables in g components and m equations, if an area is lent for it. What lies behind it stays.
-pub(crate) fn write(map: &mut [u8], lent: bool, structure: &Structure, n: usize, m: usize, g: usize)
-    requires n_bound { n ≤ 256 }
-    requires m_bound { m ≤ 1024 }
-    requires lowest { Lowest structure.now.labels n }
-    requires all_below { AllBelow n structure.now.homes m }
-    requires g_value { g ≡ length (leads_by (label_in structure.now.labels) n) }
-    requires fact { Shorter (lent_as lent map.old) (24 + 4 * n + 4 * m) → ⊥ }
-    ensures { map.new ≡ cond lent (over 0 (map_of (structure_in structure.now n m)) map.old) map.old }
-{
-    if !lent {
-        return;
-    }
-    filled(map, structure, n, m, g)
-}
-
-// All of it, into an area that is long enough.
-fn filled(map: &mut [u8], structure: &Structure, n: usize, m: usize, g: usize)
+// All of it, for n variables in g components and m equations. What lies behind it stays.
+pub(crate) fn write(map: &mut [u8], structure: &Structure, n: usize, m: usize, g: usize)
     requires n_bound { n ≤ 256 }
     requires m_bound { m ≤ 1024 }
     requires lowest { Lowest structure.now.labels n }
@@ -98,11 +76,8 @@ fn rows(
     requires count_in_bounds_3 { count ≤ length seconds.now }
     ensures { map.new ≡ over from (map_rows (λ i. get_or numbers.now (get_or homes.now i 0) 0) (λ i. get_or seconds.now i 0) count) map.old }
 {
-    let mut i: usize = 0;
-    while i < count {
-        let home = homes[i] as usize;
-        row(map, from + 4 * i, numbers[home], seconds[i]);
-        i += 1;
+    for i in 0..count {
+        row(map, from + 4 * i, numbers[homes[i] as usize], seconds[i]);
     }
 }
 

@@ -8,10 +8,11 @@ ghost use Rattle.families.specs.FamilyRun.{FamilyRun};
 ghost use Rattle.families.specs.Family.{choice};
 ghost use Rattle.families.specs.ModelFindings.{leads_by};
 ghost use Rattle.solver.specs.StateArrays.{label_in, run_in};
-ghost use Rattle.solver.specs.Labels.{Lowest};
 ghost use Rattle.little_endian.specs.Over.{over};
-ghost use Rattle.planner.specs.Choice.{FamilyRuns, Members, NoneEmpty, AllWithin, chosen_in, findings_in};
+ghost use Rattle.planner.specs.Choice.{chosen_in};
+ghost use Rattle.planner.specs.Chosen.{findings_of};
 
+use crate::choose::Chosen;
 use crate::{choose, mark};
 use runs::Run;
 use solver::components;
@@ -28,45 +29,31 @@ pub(crate) fn length(n: usize, g: usize) -> usize
     24 + 16 * n + 16 * g
 }
 
-// All of it, for n variables in g components. What lies behind it stays.
-pub(crate) fn write(
-    area: &mut [u8],
-    labels: &[u16; 256],
-    runs: &[Run; 256],
-    slopes: &[i64; 256],
-    numbers: &[i64; 256],
-    n: usize,
-    g: usize,
-    objective: i64,
-)
-    requires n_bound { n ≤ 256 }
-    requires lowest { Lowest labels.now n }
-    requires members { Members labels.now runs.now n }
-    requires none_empty { NoneEmpty runs.now n }
-    requires all_within { AllWithin 1000000000 numbers.now n }
-    requires g_value { g ≡ length (leads_by (label_in labels.now) n) }
-    requires g_in_bounds { 24 + 16 * n + 16 * g ≤ length area.old }
-    ensures { area.new ≡ over 0 (sheet_of (findings_in labels.now runs.now slopes.now numbers.now n objective)) area.old }
+// All of it. What lies behind it stays.
+pub(crate) fn write(area: &mut [u8], chosen: Chosen)
+    requires { 24 + 16 * chosen.families.variables + 16 * chosen.families.components ≤ length area.old }
+    ensures { area.new ≡ over 0 (sheet_of (findings_of chosen.entry)) area.old }
 {
-    let components = components::numbers(labels, n);
-    header(area, n, g, objective);
-    variables(area, runs, numbers, &components, n);
+    let n = chosen.families.variables;
+    let components = components::numbers(&chosen.families.state.labels, n);
+    header(area, n, chosen.families.components, chosen.worth);
+    variables(area, chosen, &components);
     let rows = 24 + 16 * n;
-    group_rows(&mut area[rows..], labels, runs, slopes, n);
+    group_rows(&mut area[rows..], chosen);
 }
 
-fn header(area: &mut [u8], n: usize, g: usize, objective: i64)
+fn header(area: &mut [u8], n: usize, g: usize, worth: i64)
     requires n_bound { n ≤ 256 }
     requires g_bound { g ≤ 256 }
     requires in_bounds { 24 ≤ length area.old }
-    ensures { area.new ≡ over 0 (sheet_header n g objective) area.old }
+    ensures { area.new ≡ over 0 (sheet_header n g worth) area.old }
 {
     mark::put(area, MARK);
     little_endian::put(area, 4, 2, n as u64);
     little_endian::put(area, 6, 2, g as u64);
     little_endian::put(area, 8, 4, 24);
     little_endian::put(area, 12, 4, 24 + 16 * n as u64);
-    little_endian::put_i64(area, 16, objective);
+    little_endian::put_i64(area, 16, worth);
 }
 
 // The row of a variable, from a place on.
@@ -83,32 +70,26 @@ fn variable(area: &mut [u8], at: usize, number: i64, run: Run, group: u16)
     little_endian::put(area, at + 14, 2, 0);
 }
 
-// The rows of n variables, with their numbers and the numbers of their groups.
-fn variables(
-    area: &mut [u8],
-    runs: &[Run; 256],
-    numbers: &[i64; 256],
-    components: &[u16; 256],
-    n: usize,
-)
-    requires n_bound { n ≤ 256 }
-    requires n_in_bounds { 24 + 16 * n ≤ length area.old }
-    requires family_runs { FamilyRuns runs.now n }
-    requires all_within { AllWithin 1000000000 numbers.now n }
-    ensures { area.new ≡ over 24 (sheet_variables (number numbers.now) (run_in runs.now) (λ i. get_or components.now i 0) n) area.old }
+// The rows of the variables, with the numbers of their components.
+fn variables(area: &mut [u8], chosen: Chosen, components: &[u16; 256])
+    requires { 24 + 16 * chosen.families.variables ≤ length area.old }
+    ensures { area.new ≡ over 24 (sheet_variables (number chosen.entry.numbers.now) (run_in chosen.entry.families.state.now.runs) (λ i. get_or components.now i 0) chosen.entry.families.variables) area.old }
 {
-    let mut i: usize = 0;
-    while i < n {
-        let run = runs[i];
-        variable(area, 24 + 16 * i, numbers[i], run, components[i]);
-        i += 1;
+    for i in 0..chosen.families.variables {
+        variable(
+            area,
+            24 + 16 * i,
+            chosen.numbers[i],
+            chosen.families.state.runs[i],
+            components[i],
+        );
     }
 }
 
 // The row of a group, from a place on.
 fn group(area: &mut [u8], at: usize, many: u32, slope: i64)
     requires at_in_bounds { at + 16 ≤ length area.old }
-    requires le_many { 1 ≤ many }
+    requires some { 1 ≤ many }
     ensures { area.new ≡ over at (sheet_group many (choice slope many) slope) area.old }
 {
     little_endian::put(area, at, 4, many as u64);
@@ -116,27 +97,17 @@ fn group(area: &mut [u8], at: usize, many: u32, slope: i64)
     little_endian::put_i64(area, at + 8, slope);
 }
 
-// The rows of the groups of n variables, into the part of the answer area that they fill.
-fn group_rows(
-    part: &mut [u8],
-    labels: &[u16; 256],
-    runs: &[Run; 256],
-    slopes: &[i64; 256],
-    n: usize,
-)
-    requires n_bound { n ≤ 256 }
-    requires n_in_bounds { 16 * length (leads_by (label_in labels.now) n) ≤ length part.old }
-    requires none_empty { NoneEmpty runs.now n }
-    ensures { part.new ≡ over 0 (sheet_groups (run_in runs.now) (chosen_in runs.now slopes.now) (number slopes.now) (leads_by (label_in labels.now) n)) part.old }
+// The rows of the groups, into the part of the answer area that they fill.
+fn group_rows(part: &mut [u8], chosen: Chosen)
+    requires { 16 * length (leads_by (label_in chosen.families.state.now.labels) chosen.families.variables) ≤ length part.old }
+    ensures { part.new ≡ over 0 (sheet_groups (run_in chosen.entry.families.state.now.runs) (chosen_in chosen.entry.families.state.now.runs chosen.entry.slopes.now) (number chosen.entry.slopes.now) (leads_by (label_in chosen.entry.families.state.now.labels) chosen.entry.families.variables)) part.old }
 {
-    let mut at: usize = 0;
-    let mut i: usize = 0;
-    while i < n {
-        if labels[i] as usize == i {
-            let run = runs[i];
-            group(part, at, run.many, slopes[i]);
+    let state = chosen.families.state;
+    let mut at = 0;
+    for i in 0..chosen.families.variables {
+        if state.labels[i] as usize == i {
+            group(part, at, state.runs[i].many, chosen.slopes[i]);
             at += 16;
         }
-        i += 1;
     }
 }

@@ -8,51 +8,41 @@ use lib.ListN.{length}
 use Rattle.ints.specs.Within.{Within}
 use Rattle.lists.specs.Table.{Tabulates}
 use Rattle.jobs.specs.Call.{Call, lending_nothing}
-use Rattle.jobs.specs.Job.{Job, job_of}
+use Rattle.jobs.specs.Job.{Job, job_of, variable_count, equation_count}
 use Rattle.jobs.specs.declared.Bounds.{Bounds}
 use Rattle.jobs.specs.Bounds.{no_bounds, with_bounds, Bounded, BoundedBy}
 use Rattle.jobs.specs.Amendments.{amendments_of, bounds_in_force, amended}
 use Rattle.jobs.specs.Faults.{first_broken}
 use Rattle.jobs.specs.Lawful.{LawfulJob, Lawful}
-use Rattle.jobs.specs.Findings.{findings}
-use Rattle.jobs.specs.Solution.{objective, best}
-use Rattle.jobs.specs.Verdict.{planned, outcome, first_without, fitting}
+use Rattle.jobs.specs.Findings.{Findings, findings}
+use Rattle.jobs.specs.Solution.{number, objective, best}
+use Rattle.jobs.specs.Component.{component_count}
+use Rattle.jobs.specs.SheetLayout.{sheet_of}
+use Rattle.little_endian.specs.Over.{over}
+use Rattle.std.proofs.Common.{Some}
+use Rattle.ints.proofs.{ℤ}
+use Rattle.jobs.specs.Verdict.{planned, no_fit, outcome, first_without, fitting}
 use Rattle.jobs.specs.AreasAfter.{sheet_after}
 use Rattle.solver.specs.declared.State.{State}
-use Rattle.solver.specs.StateArrays.{label_in}
+use Rattle.solver.specs.StateArrays.{label_in, run_in}
 use Rattle.solver.specs.Families.{Families}
 use Rattle.solver.specs.Labels.{Lowest}
-use Rattle.families.specs.ModelFindings.{leads_by}
+use Rattle.families.specs.ModelFindings.{leads_by, findings_by}
 use Rattle.planner.specs.Choice.{Members, NoneEmpty, AllWithin, FirstEmpty}
+use Rattle.solver.proofs.In64Bits.{held_element}
 use Rattle.jobs.proofs.Lawful.{lawful as lawful-job}
 use Rattle.jobs.proofs.AmendedJob.{amended-length, variable-amended, amended_with, Bounded-in_force, lawful_amended}
 use Rattle.solver.specs.VariableArrays.{BoundsOf, WeightsOf}
 use Rattle.solver.proofs.LabelsOfJob.{vars}
 use Rattle.planner.proofs.StateOfJob.{labels, members, counted, found, full, objective-best, area_best}
-use Rattle.planner.proofs.solved.Goals.{After-first_empty-empty, After-in_force, Start}
-use Rattle.planner.proofs.solved.Lts as lts
-use Rattle.planner.proofs.solved.Tie as tie
-use Rattle.planner.proofs.solved.Reads as reads
 use Rattle.planner.proofs.solved.Goals as goal
 
-module _ (s : Start) where
-  abbrev job : List ℕ
-  job = s.args.job.now
-
-  abbrev amendments : List ℕ
-  amendments = s.args.amendments.now
-
+module _ (job amendments : List ℕ) (accepted : first_broken (lending_nothing job amendments) ≡ none) (n m : ℕ) (p : n ≡ variable_count job) (q : m ≡ equation_count job) where
   abbrev call : Call
   call = lending_nothing job amendments
 
   abbrev j : Job
   j = amended job amendments
-
-  abbrev n : ℕ
-  n = s.args.n
-
-  accepted : first_broken call ≡ none
-  accepted = s.requires.amendments_value
 
   rows_Lawful : Lawful job
   rows_Lawful = lawful-job call accepted
@@ -60,8 +50,11 @@ module _ (s : Start) where
   lawful : LawfulJob j
   lawful = lawful_amended call accepted
 
+  few : n ≤ 256
+  few = omega (arith, p, rows_Lawful.rows.variables)
+
   n_rows : n ≡ length (job_of job).variables
-  n_rows = vars job n s.args.m s.requires.n_value s.requires.m_value
+  n_rows = vars job n m p q
 
   n_all : n ≡ length j.variables
   n_all = n_rows ∙ sym (amended-length job amendments)
@@ -81,66 +74,86 @@ module _ (s : Start) where
   by_first : {o : Option ℕ} → first_without j ≡ o → fitting j ≡ outcome none o (objective j (best j))
   by_first e = ap (λ o. outcome none o (objective j (best j))) e
 
+  -- with the weights and the families in hand
+  module _ (bounds : List Bounds) (bs : BoundsOf j n bounds) (weights : List ℤ) (weighs : WeightsOf j n weights) (state : State) (found_by : Families (with_bounds (job_of job) bounds) state) where
+    are_families : Families j state
+    are_families = subst (λ j. Families j state) (as_amended bounds bs) found_by
+
+    weighed : AllWithin 1000000 weights n
+    weighed = record { at = λ i h. subst (Within 1000000) (sym (weighs.at i h)) (lawful.each_variable i (omega (arith, h, n_all))).weight }
+
+    low : Lowest state.labels n
+    low = subst (Lowest state.labels) (sym n_all) (labels j lawful state are_families)
+
+    of_members : Members state.labels state.runs n
+    of_members = subst (Members state.labels state.runs) (sym n_all) (members j lawful state are_families)
+
+    grouped : (g : ℕ) → g ≡ component_count j → g ≡ length (leads_by (label_in state.labels) n)
+    grouped g e = e ∙ counted j lawful state are_families ∙ ap (λ k. length (leads_by (label_in state.labels) k)) (sym n_all)
+
+    -- the verdict, where a component is without a fit, and where none is
+    without : (l : ℕ) → FirstEmpty state.runs n (Some l) → no_fit l ≡ fitting j
+    without l f = sym (by_first (found j lawful state are_families l (omega (arith, f.0, n_all)) f.1.0 f.1.1))
+
+    module _ (none_empty : NoneEmpty state.runs n) where
+      abbrev all : Findings
+      all = findings_by n (number weights) (label_in state.labels) (run_in state.runs)
+
+      with_fits : planned (findings_by n (number weights) (label_in state.labels) (run_in state.runs)).objective ≡ fitting j
+      with_fits =
+          ap planned (objective-best j lawful state are_families n_all weights weighs none_empty)
+          ∙ sym (by_first (full j lawful state are_families (subst (NoneEmpty state.runs) n_all none_empty)))
+
+      written : (a : List ℕ) → over 0 (sheet_of (findings_by n (number weights) (label_in state.labels) (run_in state.runs))) a ≡ sheet_after (findings j) (fitting j) a
+      unfolding sheet_after
+      written a =
+          area_best j lawful state are_families n_all weights weighs none_empty a
+          ∙ ap (λ v. sheet_after (findings j) v a) (by_planned)
+        where
+          by_planned : planned (objective j (best j)) ≡ fitting j
+          by_planned = sym (by_first (full j lawful state are_families (subst (NoneEmpty state.runs) n_all none_empty)))
+
+  kept : (l : ℕ) → no_fit l ≡ fitting j → (a : List ℕ) → a ≡ sheet_after (findings j) (fitting j) a
+  unfolding sheet_after
+  kept l e a = ap (λ v. sheet_after (findings j) v a) e
+
 pub families-requires : goal.families-requires
-families-requires c = let s = (goal.at.families-requires c).Start in
-    record { lawful = rows_Lawful s; n_value = c.requires.n_value; m_value = c.requires.m_value; bounded_by = bounded s c.in_force.new.bounds c.in_force.ensures.bounds_of }
+families-requires c = let x = c.args in
+    let r = c.requires in record {
+      lawful = rows_Lawful x.job.now x.amendments.now r.amendments_value x.n x.m r.n_value r.m_value;
+      n_value = r.n_value;
+      m_value = r.m_value;
+      bounded_by = bounded x.job.now x.amendments.now r.amendments_value x.n x.m r.n_value r.m_value c.in_force.new.bounds c.in_force.ensures.bounds_of;
+    }
 
--- before the rows are read
-abbrev start_of : lts.After-in_force tie.the-claims reads.Pre reads.Post tie.handed_clauses → Start
-start_of r = r.before.before.before.before.before.before
+pub first_empty-requires : goal.first_empty-requires
+first_empty-requires c = let x = c.args in let r = c.requires in few x.job.now x.amendments.now r.amendments_value x.n x.m r.n_value r.m_value
 
-pub first_empty-empty-requires : goal.first_empty-empty-requires
-first_empty-empty-requires c = let s = start_of (goal.at.first_empty-empty-requires c).After-in_force.before in omega (arith, s.requires.n_value, (rows_Lawful s).rows.variables)
+pub returns-in-Some : goal.returns-in-Some
+returns-in-Some c = let x = c.args in
+    let r = c.requires in
+    let l = c.in-Some.variable in
+    let e = without x.job.now x.amendments.now r.amendments_value x.n x.m r.n_value r.m_value c.in_force.new.bounds c.in_force.ensures.bounds_of c.in_force.new.weights c.in_force.ensures.weights_of c.families.new.state c.families.ensures l (c.in-Some.ensures) in
+    record { fits = e; area_after = kept x.job.now x.amendments.now r.amendments_value x.n x.m r.n_value r.m_value l e x.area.now }
 
--- with the families in hand
-module _ (c : lts.After-first_empty tie.the-claims reads.Pre reads.Post tie.handed_clauses) where
-  abbrev rows : lts.After-in_force tie.the-claims reads.Pre reads.Post tie.handed_clauses
-  rows = c.before.before.before.before.before
-
-  abbrev start : Start
-  start = start_of rows
-
-  abbrev state : State
-  state = c.families.new.state
-
-  are_families : Families (j start) state
-  are_families =
-      subst (λ j. Families j state) (as_amended start rows.in_force.new.bounds rows.in_force.ensures.bounds_of) c.families.ensures
-
-  weighs : WeightsOf (j start) (n start) rows.in_force.new.weights
-  weighs = rows.in_force.ensures.weights_of
-
-  weighed : AllWithin 1000000 rows.in_force.new.weights (n start)
-  weighed = record { at = λ i h. subst (Within 1000000) (sym (weighs.at i h)) ((lawful start).each_variable i (omega (arith, h, n_all start))).weight }
-
-  grouped : start.args.g ≡ length (leads_by (label_in state.labels) (n start))
-  grouped = start.requires.g_value ∙ counted (j start) (lawful start) state are_families ∙ ap (λ k. length (leads_by (label_in state.labels) k)) (sym (n_all start))
-
-  room : 24 + 16 * n start + 16 * start.args.g ≤ length start.args.area.now
-  room = omega (arith, n_all start, start.requires.g_value, start.requires.amendments_in_bounds)
+pub invariant_of-families : goal.invariant_of-families
+invariant_of-families c = let x = c.args in
+    let r = c.requires in record {
+      few = few x.job.now x.amendments.now r.amendments_value x.n x.m r.n_value r.m_value;
+      weights_small = weighed x.job.now x.amendments.now r.amendments_value x.n x.m r.n_value r.m_value c.in_force.new.bounds c.in_force.ensures.bounds_of c.in_force.new.weights c.in_force.ensures.weights_of c.families.new.state c.families.ensures;
+      lowest = low x.job.now x.amendments.now r.amendments_value x.n x.m r.n_value r.m_value c.in_force.new.bounds c.in_force.ensures.bounds_of c.in_force.new.weights c.in_force.ensures.weights_of c.families.new.state c.families.ensures;
+      members = of_members x.job.now x.amendments.now r.amendments_value x.n x.m r.n_value r.m_value c.in_force.new.bounds c.in_force.ensures.bounds_of c.in_force.new.weights c.in_force.ensures.weights_of c.families.new.state c.families.ensures;
+      none_empty = c.in-None.ensures;
+      counted = grouped x.job.now x.amendments.now r.amendments_value x.n x.m r.n_value r.m_value c.in_force.new.bounds c.in_force.ensures.bounds_of c.in_force.new.weights c.in_force.ensures.weights_of c.families.new.state c.families.ensures x.g r.g_value;
+    }
 
 pub written-requires : goal.written-requires
-written-requires c = let e = (goal.at.written-requires c).After-first_empty-empty.before in
-    let s = start e in record { n_bound = omega (arith, s.requires.n_value, (rows_Lawful s).rows.variables); all_within = weighed e; lowest = subst (Lowest (state e).labels) (sym (n_all s)) (labels (j s) (lawful s) (state e) (are_families e)); members = subst (Members (state e).labels (state e).runs) (sym (n_all s)) (members (j s) (lawful s) (state e) (are_families e)); none_empty = subst (FirstEmpty (state e).runs (n s)) c.in-Nothing.is c.first_empty-empty.ensures; g_value = grouped e; g_in_bounds = room e }
+written-requires c = let x = c.args in
+    let r = c.requires in omega (arith, n_all x.job.now x.amendments.now r.amendments_value x.n x.m r.n_value r.m_value, r.g_value, r.amendments_in_bounds)
 
-pub returns-in-At : goal.returns-in-At
-unfolding sheet_after
-returns-in-At c = let e = (goal.at.returns-in-At c).After-first_empty-empty.before in
-    let s = start e in
-    let l = c.in-At.l in
-    let f = subst (FirstEmpty (state e).runs (n s)) c.in-At.is c.first_empty-empty.ensures in
-    let v = by_first s (found (j s) (lawful s) (state e) (are_families e) l (omega (arith, f.0, n_all s)) f.1.0 f.1.1) in
-    record { result_value = sym v; area_after = ap (λ v. sheet_after (findings (j s)) v s.args.area.now) (sym v); result_value_2 = refl }
-
-pub returns-in-Nothing : goal.returns-in-Nothing
-unfolding sheet_after
-returns-in-Nothing c = let e = (goal.at.returns-in-Nothing c).After-first_empty-empty.before in
-    let s = start e in
-    let f = subst (FirstEmpty (state e).runs (n s)) c.in-Nothing.is c.first_empty-empty.ensures in
-    let weights = (rows e).in_force.new.weights in
-    let v = by_first s (full (j s) (lawful s) (state e) (are_families e) (subst (NoneEmpty (state e).runs) (n_all s) f)) in record {
-      result_value = c.written.ensures.result_value ∙ ap planned (objective-best (j s) (lawful s) (state e) (are_families e) (n_all s) weights (weighs e) f) ∙ sym v;
-      area_after = c.written.ensures.area_after ∙ area_best (j s) (lawful s) (state e) (are_families e) (n_all s) weights (weighs e) f s.args.area.now
-          ∙ ap (λ v. sheet_after (findings (j s)) v s.args.area.now) (sym v);
-      result_value_2 = c.written.ensures.result_value_2;
+pub returns-in-None : goal.returns-in-None
+returns-in-None c = let x = c.args in
+    let r = c.requires in record {
+      fits = ap planned (held_element c.written.result c.written.type_inv ∙ c.written.ensures.worth) ∙ with_fits x.job.now x.amendments.now r.amendments_value x.n x.m r.n_value r.m_value c.in_force.new.bounds c.in_force.ensures.bounds_of c.in_force.new.weights c.in_force.ensures.weights_of c.families.new.state c.families.ensures (c.in-None.ensures);
+      area_after = c.written.ensures.area_after ∙ written x.job.now x.amendments.now r.amendments_value x.n x.m r.n_value r.m_value c.in_force.new.bounds c.in_force.ensures.bounds_of c.in_force.new.weights c.in_force.ensures.weights_of c.families.new.state c.families.ensures (c.in-None.ensures) x.area.now;
     }

@@ -33,9 +33,9 @@ module _ (numbers homes seconds : List ℕ) (from : ℕ) (a : List ℕ) where
 
 pub loop-i-init : goal.loop-i-init
 loop-i-init c = let x = c.args in
-    (omega arith, none x.numbers.now x.homes.now x.seconds.now x.from x.map.now (omega (arith, c.requires.count_in_bounds)))
+    none x.numbers.now x.homes.now x.seconds.now x.from x.map.now (omega (arith, c.requires.count_in_bounds))
 
 pub loop-i-preserved : goal.loop-i-preserved
 loop-i-preserved c = let l = c.loop-i in
     let x = c.args in
-    (omega arith, more x.numbers.now x.homes.now x.seconds.now x.from x.map.now l.map _ x.count l.i (omega arith) c.requires.count_in_bounds l.invariant.1 c.row.ensures)
+    more x.numbers.now x.homes.now x.seconds.now x.from x.map.now l.map _ x.count l.i (omega arith) c.requires.count_in_bounds l.invariant c.row.ensures

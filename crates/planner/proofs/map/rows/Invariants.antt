@@ -15,7 +15,4 @@ abbrev pub rows : List ℕ → List ℕ → List ℕ → ℕ → List ℕ
 rows numbers homes seconds i = map_rows (number numbers homes) (λ k. get_or seconds k 0) i
 
 abbrev pub invariant-loop-i : goal.invariant-loop-i
-invariant-loop-i l = (l.i ≤ l.count) × (l.map ≡ over l.from (rows l.numbers l.homes l.seconds l.i) l.initial.map)
-
-abbrev pub decreases-loop-i : goal.decreases-loop-i
-decreases-loop-i l = l.count - l.i
+invariant-loop-i l = (l.map ≡ over l.from (rows l.numbers l.homes l.seconds l.i) l.initial.map)

@@ -1,8 +1,8 @@
 -- `group_rows` meets its contract: row for row.
 use mathlib.Core.Path.{◌≡◌, sym, ◌∙◌, ap}
-use mathlib.Core.Logic.{⊎_elim}
 use mathlib.Core.List.{List, [], ◌∷◌}
 use Prim.Native.Nat.{ℕ, ◌+◌, ◌*◌, ◌≤◌, ◌<◌}
+use borrow.Author.Rules.{rules}
 use native.Mathlib.Omega.{arith}
 use lib.ListN.{length, get_or, length-append}
 use lib.IntN.{ℤ, pos}
@@ -20,6 +20,7 @@ use Rattle.little_endian.proofs.Over.{over_none, over_same}
 use Rattle.solver.proofs.In64Bits.{held_element}
 use Rattle.planner.proofs.ReportRows.{laid, laid_length}
 use Rattle.planner.proofs.SheetRows.{groups_none, groups_yes, groups_no}
+use Rattle.planner.proofs.sheet.group_rows.Goals.{then-state-i, else-state-i}
 use Rattle.planner.proofs.sheet.group_rows.Goals as goal
 use Rattle.planner.proofs.sheet.group_rows.Invariants.{rows}
 
@@ -41,39 +42,47 @@ more : (g : ℕ → ℕ) (i at : ℕ) → g i ≡ i → at ≡ 16 * length (lead
 more g i at e q = omega (arith, q, ap length (leads_yes g i e) ∙ length-append (leads_by g i) (i ∷ []))
 
 pub loop-i-init : goal.loop-i-init
-loop-i-init c = let x = c.args in (
-  omega arith,
-  (
-    sym (ap (λ ls. 16 * length ls) (leads_none (label_in x.labels.now))),
-    sym (ap (λ b. over 0 b x.part.now) (groups_none (label_in x.labels.now) (run_in x.runs.now) (chosen_in x.runs.now x.slopes.now) (number x.slopes.now)) ∙ over_none 0 x.part.now (omega arith)),
-  ),
-)
+loop-i-init c = let x = c.args.chosen in
+    let runs = x.families.state.now.runs in
+    let g = label_in x.families.state.now.labels in (
+      sym (ap (λ ls. 16 * length ls) (leads_none g)),
+      sym (ap (λ b. over 0 b c.args.part.now) (groups_none g (run_in runs) (chosen_in runs x.slopes.now) (number x.slopes.now)) ∙ over_none 0 c.args.part.now (omega arith)),
+    )
 
 pub group-requires : goal.group-requires
-group-requires c = let l = c.loop-i in
-    let x = c.args in record { at_in_bounds = omega (arith, l.invariant.1.0, room (label_in x.labels.now) x.n l.i x.part.now (omega arith) c.if-labels-i.true c.requires.n_in_bounds, kept x.labels.now x.runs.now x.slopes.now x.n l.i x.part.now l.part l.invariant.0 c.requires.n_in_bounds l.invariant.1.1); le_many = c.requires.none_empty.at l.i (omega arith) }
+group-requires c = let x = c.args.chosen in
+    let labels = x.families.state.now.labels in
+    let l = c.loop-i in record {
+      at_in_bounds = omega (
+        arith,
+        l.invariant.0,
+        room (label_in labels) x.families.variables l.i c.args.part.now (omega arith) c.if-state-i.true c.requires,
+        kept labels x.families.state.now.runs x.slopes.now x.families.variables l.i c.args.part.now l.part (omega arith) c.requires l.invariant.1,
+      );
+      some = x.families.none_empty.at l.i (omega arith);
+    }
 
 pub overflow_add-at : goal.overflow_add-at
-overflow_add-at c = let l = c.loop-i in
-    omega (arith, l.invariant.1.0, leads_length (label_in c.args.labels.now) l.i)
+overflow_add-at c = omega (arith, c.loop-i.invariant.0, leads_length (label_in c.args.chosen.families.state.now.labels) c.loop-i.i, c.args.chosen.families.few)
 
 pub loop-i-preserved : goal.loop-i-preserved
 loop-i-preserved c = let l = c.loop-i in
-    let x = c.args in
-    let g = label_in x.labels.now in
-    ⊎_elim (λ w. (
-      omega arith,
-      (
-        w.at-is ∙ more g l.i l.at w.if-labels-i.true l.invariant.1.0,
-        w.part-is ∙ laid 16 0 (length (leads_by g l.i)) (rows x.labels.now x.runs.now x.slopes.now l.i) (sheet_group (run_in x.runs.now l.i).many (chosen_in x.runs.now x.slopes.now l.i) (number x.slopes.now l.i)) x.part.now l.part _ (long x.labels.now x.runs.now x.slopes.now l.i)
-            (omega (arith, room g x.n l.i x.part.now (omega arith) w.if-labels-i.true c.requires.n_in_bounds)) (omega (arith, l.invariant.1.0)) l.invariant.1.1
-            (over_same l.at l.part _ (ap (λ z. sheet_group (run_in x.runs.now l.i).many (choice z (run_in x.runs.now l.i).many) z) (held_element (get_or x.slopes.now l.i (pos 0)) w.group-arg-then-labels-i-1.given)) w.group.ensures)
-            ∙ ap (λ b. over 0 b x.part.now) (groups_yes (label_in x.labels.now) (run_in x.runs.now) (chosen_in x.runs.now x.slopes.now) (number x.slopes.now) l.i w.if-labels-i.true),
-      ),
-    )) (λ w. (
-      omega arith,
-      (
-        w.at-is ∙ l.invariant.1.0 ∙ sym (ap (λ ls. 16 * length ls) (leads_no g l.i w.if-labels-i.false)),
-        w.part-is ∙ l.invariant.1.1 ∙ ap (λ b. over 0 b x.part.now) (groups_no (label_in x.labels.now) (run_in x.runs.now) (chosen_in x.runs.now x.slopes.now) (number x.slopes.now) l.i w.if-labels-i.false),
-      ),
-    )) c.if-labels-i.branch-raw
+    let a = c.args.part.now in
+    let n = c.args.chosen.families.variables in
+    let labels = c.args.chosen.families.state.now.labels in
+    let runs = c.args.chosen.families.state.now.runs in
+    let slopes = c.args.chosen.slopes.now in
+    let g = label_in labels in
+    let many = (run_in runs l.i).many in elim c.if-state-i.branch [
+      | then-state-i w ↦ (
+        w.at-is ∙ more g l.i l.at w.if-state-i.true l.invariant.0,
+        w.part-is ∙ laid 16 0 (length (leads_by g l.i)) (rows labels runs slopes l.i) (sheet_group many (chosen_in runs slopes l.i) (number slopes l.i)) a l.part _ (long labels runs slopes l.i)
+            (omega (arith, room g n l.i a (omega arith) w.if-state-i.true c.requires)) (omega (arith, l.invariant.0)) l.invariant.1
+            (over_same l.at l.part _ (ap (λ z. sheet_group many (choice z many) z) (held_element (number slopes l.i) (search rules))) w.group.ensures)
+            ∙ ap (λ b. over 0 b a) (groups_yes g (run_in runs) (chosen_in runs slopes) (number slopes) l.i w.if-state-i.true),
+      )
+      | else-state-i w ↦ (
+        w.at-is ∙ l.invariant.0 ∙ sym (ap (λ ls. 16 * length ls) (leads_no g l.i w.if-state-i.false)),
+        w.part-is ∙ l.invariant.1 ∙ ap (λ b. over 0 b a) (groups_no g (run_in runs) (chosen_in runs slopes) (number slopes) l.i w.if-state-i.false),
+      )
+    ]

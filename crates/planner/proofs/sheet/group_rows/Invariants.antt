@@ -18,7 +18,4 @@ abbrev pub rows : List ℕ → List Run → List ℤ → ℕ → List ℕ
 rows labels runs slopes i = sheet_groups (run_in runs) (chosen_in runs slopes) (number slopes) (leads_by (label_in labels) i)
 
 abbrev pub invariant-loop-i : goal.invariant-loop-i
-invariant-loop-i l = (l.i ≤ l.n) × ((l.at ≡ 16 * length (leads_by (label_in l.labels) l.i)) × (l.part ≡ over 0 (rows l.labels l.runs l.slopes l.i) l.initial.part))
-
-abbrev pub decreases-loop-i : goal.decreases-loop-i
-decreases-loop-i l = l.n - l.i
+invariant-loop-i l = (l.at ≡ 16 * length (leads_by (label_in l.chosen.families.state.now.labels) l.i)) × (l.part ≡ over 0 (rows l.chosen.families.state.now.labels l.chosen.families.state.now.runs l.chosen.slopes.now l.i) l.initial.part)

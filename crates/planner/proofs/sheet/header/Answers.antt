@@ -26,10 +26,10 @@ row n g objective a l₁ l₂ l₃ l₄ l₅ l₆ h e₁ e₂ e₃ e₄ e₅ e�
 
 pub returns : goal.returns
 returns c = let x = c.args in
-    row x.n x.g x.objective x.area.now _ _ _ _ _ _ c.requires.in_bounds
+    row x.n x.g x.worth x.area.now _ _ _ _ _ _ c.requires.in_bounds
     c.put.ensures
     c.put-2.ensures
     c.put-3.ensures
     c.put-4.ensures
     c.put-5.ensures
-    (over_same 16 _ _ (ap (signed_bytes 8) (to_z-of_z c.ranges.objective)) c.put_i64.ensures)
+    (over_same 16 _ _ (ap (signed_bytes 8) (to_z-of_z c.ranges.worth)) c.put_i64.ensures)

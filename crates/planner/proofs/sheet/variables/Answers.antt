@@ -29,13 +29,13 @@ module _ (runs : List Run) (numbers : List ℤ) (components : List ℕ) (a x : L
 
 pub loop-i-init : goal.loop-i-init
 loop-i-init c = let x = c.args in
-    (omega arith, sym (ap (λ b. over 24 b x.area.now) (variables_none (number x.numbers.now) (run_in x.runs.now) (λ k. get_or x.components.now k 0)) ∙ over_none 24 x.area.now (omega arith)))
+    let f = x.chosen.families in
+    sym (ap (λ b. over 24 b x.area.now) (variables_none (number x.chosen.numbers.now) (run_in f.state.now.runs) (λ k. get_or x.components.now k 0)) ∙ over_none 24 x.area.now (omega arith))
 
 pub loop-i-preserved : goal.loop-i-preserved
 loop-i-preserved c = let l = c.loop-i in
     let x = c.args in
-    let w = c.requires.all_within.at l.i (omega arith) in (
-      omega arith,
-      more x.runs.now x.numbers.now x.components.now x.area.now l.area x.n l.i _ (omega arith) c.requires.n_in_bounds l.invariant.1
-          (over_same (24 + 16 * l.i) l.area _ (ap (λ z. sheet_variable z (run_in x.runs.now l.i) (get_or x.components.now l.i 0)) (held-Within (omega arith) w)) c.variable.ensures),
-    )
+    let runs = x.chosen.families.state.now.runs in
+    let w = x.chosen.numbers_small.at l.i (omega arith) in
+    more runs x.chosen.numbers.now x.components.now x.area.now l.area x.chosen.families.variables l.i _ (omega arith) c.requires l.invariant
+    (over_same (24 + 16 * l.i) l.area _ (ap (λ z. sheet_variable z (run_in runs l.i) (get_or x.components.now l.i 0)) (held-Within (omega arith) w)) c.variable.ensures)

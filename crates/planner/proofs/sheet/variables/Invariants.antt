@@ -16,7 +16,4 @@ abbrev pub rows : List Run → List ℤ → List ℕ → ℕ → List ℕ
 rows runs numbers components i = sheet_variables (number numbers) (run_in runs) (λ k. get_or components k 0) i
 
 abbrev pub invariant-loop-i : goal.invariant-loop-i
-invariant-loop-i l = (l.i ≤ l.n) × (l.area ≡ over 24 (rows l.runs l.numbers l.components l.i) l.initial.area)
-
-abbrev pub decreases-loop-i : goal.decreases-loop-i
-decreases-loop-i l = l.n - l.i
+invariant-loop-i l = l.area ≡ over 24 (rows l.chosen.families.state.now.runs l.chosen.numbers.now l.components l.i) l.initial.area

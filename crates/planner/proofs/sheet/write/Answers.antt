@@ -3,6 +3,7 @@ use mathlib.Core.Path.{◌≡◌, refl, ◌∙◌, ap}
 use mathlib.Core.List.{List}
 use Prim.Native.Nat.{ℕ, ◌+◌, ◌*◌, ◌-◌, ◌≤◌}
 use borrow.Rule.Slice.PartMut.{mid_of, put_mid}
+use borrow.Author.Rules.{rules}
 use native.Mathlib.Omega.{arith}
 use lib.ListN.{length, get_or}
 use lib.IntN.{ℤ}
@@ -19,7 +20,6 @@ use Rattle.little_endian.specs.Over.{over}
 use Rattle.planner.specs.Choice.{chosen_in, findings_in}
 use Rattle.little_endian.proofs.Over.{over_same, over_lent, Written, behind_it, length-over}
 use Rattle.planner.proofs.SheetRows.{variables_same}
-use Rattle.planner.proofs.sheet.write.Goals.{After-header, After-variables}
 use Rattle.planner.proofs.sheet.write.Goals as goal
 
 module _ (labels : List ℕ) (runs : List Run) (slopes numbers : List ℤ) (n g : ℕ) (objective : ℤ) (q : g ≡ length (leads_by (label_in labels) n)) where
@@ -54,29 +54,19 @@ module _ (labels : List ℕ) (runs : List Run) (slopes numbers : List ℤ) (n g 
       (length_groups (run_in runs) (chosen_in runs slopes) (number slopes) (leads_by (label_in labels) n))).is
 
 pub header-requires : goal.header-requires
-header-requires c = record { n_bound = c.requires.n_bound; g_bound = omega (arith, c.requires.g_value, leads_length (label_in c.args.labels.now) c.args.n); in_bounds = omega (arith, c.requires.g_in_bounds) }
-
-headed : (c : After-header) → let x = c.args in c.header.new.area ≡ over 0 (sheet_header x.n x.g x.objective) x.area.now
-headed c = over_same 0 _ _ (ap (sheet_header c.args.n c.args.g) (to_z-of_z c.ranges.objective)) c.header.ensures
-
-after_header : (c : After-header) → length c.header.new.area ≡ length c.args.area.now
-after_header c =
-    let x = c.args in
-    first_long x.labels.now x.runs.now x.slopes.now x.numbers.now x.n x.g x.objective c.requires.g_value x.area.now _ (omega (arith, c.requires.g_in_bounds)) (headed c)
-
-after_variables : (c : After-variables) → length c.variables.new.area ≡ length c.args.area.now
-after_variables c =
-    let q1 = c.before.before.before.before.before in
-    let x = c.args in
-    second_long x.labels.now x.runs.now x.slopes.now x.numbers.now x.n x.g x.objective c.requires.g_value _ _ _ (omega (arith, after_header q1, c.requires.g_in_bounds)) c.variables.ensures ∙ after_header q1
+header-requires c = let f = c.args.chosen.families in
+    record { n_bound = f.few; g_bound = omega (arith, f.counted, leads_length (label_in f.state.now.labels) f.variables, f.few); in_bounds = omega (arith, c.requires) }
 
 pub returns : goal.returns
-returns c = let q2 = (goal.at.returns c).After-variables in
-    let q1 = (goal.at.returns c).After-header in
-    let x = c.args in
-    whole x.labels.now x.runs.now x.slopes.now x.numbers.now x.n x.g x.objective c.requires.g_value c.numbers-components.result x.area.now _ _ _ c.requires.g_in_bounds
+returns c = let x = c.args.chosen in
+    let f = x.families in
+    let a = c.args.area.now in
+    let headed = over_same 0 _ _ (ap (sheet_header f.variables f.components) (search rules)) c.header.ensures in
+    let after_header = first_long f.state.now.labels f.state.now.runs x.slopes.now x.numbers.now f.variables f.components x.worth f.counted a _ (omega (arith, c.requires)) headed in
+    let after_variables = second_long f.state.now.labels f.state.now.runs x.slopes.now x.numbers.now f.variables f.components x.worth f.counted _ _ _ (omega (arith, after_header, c.requires)) c.variables.ensures ∙ after_header in
+    whole f.state.now.labels f.state.now.runs x.slopes.now x.numbers.now f.variables f.components x.worth f.counted c.numbers-components.result a _ _ _ c.requires
     c.numbers-components.ensures
-    (headed q1)
+    headed
     c.variables.ensures
-    (after_variables q2)
+    after_variables
     c.group_rows.ensures

@@ -1,4 +1,4 @@
--- `filled` meets its contract: the header, the variables' rows and the equations' rows.
+-- `write` meets its contract: the header, the variables' rows and the equations' rows.
 use mathlib.Core.Path.{◌≡◌, refl, ◌∙◌, ap}
 use mathlib.Core.List.{List}
 use Prim.Native.Nat.{ℕ, ◌+◌, ◌*◌, ◌≤◌, ◌<◌}
@@ -15,8 +15,8 @@ use Rattle.solver.specs.StateArrays.{label_in}
 use Rattle.solver.specs.Labels.{Lowest}
 use Rattle.solver.proofs.LowestVariables.{leads_length, component_same}
 use Rattle.planner.specs.Mapping.{AllBelow, structure_in}
-use Rattle.planner.proofs.map.filled.Goals.{Start}
-use Rattle.planner.proofs.map.filled.Goals as goal
+use Rattle.planner.proofs.map.write.Goals.{Start}
+use Rattle.planner.proofs.map.write.Goals as goal
 
 -- a number in an array
 abbrev at : List ℕ → ℕ → ℕ

@@ -1,14 +1,14 @@
 -- `slopes` meets its contract: each variable adds to its own component.
 use mathlib.Core.Path.{◌≡◌}
 use mathlib.Core.List.{List}
-use Prim.Native.Nat.{ℕ, ◌-◌, ◌≤◌, ◌<◌}
+use Prim.Native.Nat.{ℕ, ◌≤◌, ◌<◌}
 use lib.ListN.{length, get_or}
 use Rattle.ints.proofs.{ℤ, pos, ◌*ℤ◌}
 use Rattle.lists.specs.Sums.{sum_of}
 use Rattle.runs.specs.declared.Run.{Run}
 use Rattle.jobs.specs.Solution.{number}
 use Rattle.solver.specs.StateArrays.{label_in, run_in}
-use Rattle.planner.proofs.choose.slopes.Given as goal
+use Rattle.planner.proofs.choose.Families.slopes.Given as goal
 
 -- the slopes of the first i variables: w gives the weights, g the labels and s the steps
 pub record Summed (w : ℕ → ℤ) (g : ℕ → ℕ) (s : ℕ → ℤ) (n i : ℕ) (slopes : List ℤ) : Type 0 where
@@ -19,7 +19,4 @@ abbrev pub steps : List Run → ℕ → ℤ
 steps runs k = (run_in runs k).step
 
 abbrev pub invariant-loop-i : goal.invariant-loop-i
-invariant-loop-i l = (l.i ≤ l.n) × Summed (number l.weights) (label_in l.labels) (steps l.runs) l.n l.i l.slopes
-
-abbrev pub decreases-loop-i : goal.decreases-loop-i
-decreases-loop-i l = l.n - l.i
+invariant-loop-i l = Summed (number l.self.weights.now) (label_in l.self.state.now.labels) (steps l.self.state.now.runs) l.self.variables l.i l.slopes

@@ -6,6 +6,8 @@ use native.Mathlib.Decide.{ℕ_discrete}
 use lib.Dec.{eqb}
 use lib.ListN.{get_or, set, replicate, length-set, length-replicate}
 use lib.Seq.{get_or-set_same, get_or-set_other}
+use mir.Syntax.{w64}
+use mir.Val.{SFits}
 use Rattle.ints.specs.Within.{Within}
 use Rattle.ints.proofs.Signed.{held}
 use Rattle.ints.proofs.{ℤ, pos, ◌+ℤ◌, ◌*ℤ◌, [], ◌∷◌, arith, lin₀, facts}
@@ -19,9 +21,9 @@ use Rattle.families.proofs.FamilySizes.{step-Within}
 use Rattle.solver.specs.StateArrays.{label_in, run_in}
 use Rattle.solver.proofs.In64Bits.{held-Within}
 use Rattle.planner.proofs.WeightedSums.{fits_product, fits_total, total_is, sums_Within}
-use Rattle.planner.proofs.choose.slopes.Goals.{After-struct_told-1, At-loop-i, Start}
-use Rattle.planner.proofs.choose.slopes.Goals as goal
-use Rattle.planner.proofs.choose.slopes.Invariants.{Summed, steps}
+use Rattle.planner.specs.declared.choose.Families.{Families}
+use Rattle.planner.proofs.choose.Families.slopes.Goals as goal
+use Rattle.planner.proofs.choose.Families.slopes.Invariants.{Summed, steps}
 
 plus_zero : (x : ℤ) → x +ℤ pos 0 ≡ x
 plus_zero x = lin₀ (x ∷ []) (search facts depth 20) (omega arith)
@@ -55,68 +57,58 @@ whole : (n i l : ℕ) (w : ℕ → ℤ) (g : ℕ → ℕ) (r : ℕ → Run) → 
 unfolding slope_by
 whole n i l w g r e = ap (λ m. sum_of g l m (λ k. w k *ℤ (r k).step)) e
 
-pub loop-i-init : goal.loop-i-init
-loop-i-init c = let x = c.args in (omega arith, none (number x.weights.now) (label_in x.labels.now) (steps x.runs.now) x.n)
-
--- after all is read
-module _ (c : After-struct_told-1) where
-  abbrev start : Start
-  start = c.before.before.before.before.before.before.before.before.before.before
-
-  abbrev loop : At-loop-i
-  loop = c.before.before.before.before.before.before.before.before.before
-
-  abbrev i : ℕ
-  i = loop.loop-i.i
-
+-- at variable i, with the slopes of those before it
+module _ (f : Families) (i : ℕ) (below : i < f.variables) (slopes : List ℤ) where
   abbrev w : ℕ → ℤ
-  w = number start.args.weights.now
+  w = number f.weights.now
 
   abbrev g : ℕ → ℕ
-  g = label_in start.args.labels.now
+  g = label_in f.state.now.labels
 
   abbrev s : ℕ → ℤ
-  s = steps start.args.runs.now
+  s = steps f.state.now.runs
 
-  below : i < start.args.n
-  below = omega arith
+  module _ (summed : Summed (number f.weights.now) (label_in f.state.now.labels) (steps f.state.now.runs) f.variables i slopes) where
+    low : g i < f.variables
+    low = omega (arith, f.lowest.low i below, below)
 
-  low : g i < start.args.n
-  low = omega (arith, start.requires.labelled.at i below, below)
+    step_small : (k : ℕ) → k < f.variables → Within 2000000000 (s k)
+    step_small k h = step-Within (f.members.form.at k h)
 
-  weight_small : Within 1000000 (w i)
-  weight_small = start.requires.all_within.at i below
+    sum_small : Within 600000000000000000 (sum_of g (g i) i (λ k. w k *ℤ s k))
+    sum_small = sums_Within f.few w s f.weights_small.at step_small g (g i) i (omega arith)
 
-  step_small : (k : ℕ) → k < start.args.n → Within 2000000000 (s k)
-  step_small k h = step-Within (start.requires.family_runs.at k h)
+    before : held (number slopes (g i)) ≡ sum_of g (g i) i (λ k. w k *ℤ s k)
+    before = let e = summed.at (g i) low in held-Within (omega arith) (subst (Within 600000000000000000) (sym e) sum_small) ∙ e
 
-  sum_small : Within 600000000000000000 (sum_of g (g i) i (λ k. w k *ℤ s k))
-  sum_small = sums_Within start.requires.n_bound w s start.requires.all_within.at step_small g (g i) i (omega arith)
+    weight : held (w i) ≡ w i
+    weight = held-Within (omega arith) (f.weights_small.at i below)
 
-  before : held (number loop.loop-i.slopes (g i)) ≡ sum_of g (g i) i (λ k. w k *ℤ s k)
-  before = let e = loop.loop-i.invariant.1.at (g i) low in held-Within (omega arith) (subst (Within 600000000000000000) (sym e) sum_small) ∙ e
+    step : held (s i) ≡ s i
+    step = held-Within (omega arith) (step_small i below)
 
-  weight : held (w i) ≡ w i
-  weight = held-Within (omega arith) weight_small
+    pub product_fits : SFits w64 (held (w i) *ℤ held (s i))
+    product_fits = fits_product before weight step (f.weights_small.at i below) (step_small i below) sum_small
 
-  step : held (s i) ≡ s i
-  step = held-Within (omega arith) (step_small i below)
+    pub sum_fits : SFits w64 (held (number slopes (g i)) +ℤ held (held (w i) *ℤ held (s i)))
+    sum_fits = fits_total before weight step (f.weights_small.at i below) (step_small i below) sum_small
+
+    pub next : Summed (number f.weights.now) (label_in f.state.now.labels) (steps f.state.now.runs) f.variables (i + 1) (set slopes (label_in f.state.now.labels i) (held (held (number slopes (label_in f.state.now.labels i)) +ℤ held (held (number f.weights.now i) *ℤ held (steps f.state.now.runs i)))))
+    next = more w g s f.variables i slopes summed low f.few _ (total_is before weight step (f.weights_small.at i below) (step_small i below) sum_small)
+
+pub loop-i-init : goal.loop-i-init
+loop-i-init c = let f = c.args.self in none (number f.weights.now) (label_in f.state.now.labels) (steps f.state.now.runs) f.variables
 
 pub overflow_mul-slopes : goal.overflow_mul-slopes
-overflow_mul-slopes c = fits_product (before c) (weight c) (step c) (weight_small c) (step_small c (i c) (below c)) (sum_small c)
+overflow_mul-slopes c = product_fits c.args.self c.loop-i.i (omega arith) c.loop-i.slopes c.loop-i.invariant
 
 pub overflow_add-slopes : goal.overflow_add-slopes
-overflow_add-slopes c = fits_total (before c) (weight c) (step c) (weight_small c) (step_small c (i c) (below c)) (sum_small c)
+overflow_add-slopes c = sum_fits c.args.self c.loop-i.i (omega arith) c.loop-i.slopes c.loop-i.invariant
 
 pub loop-i-preserved : goal.loop-i-preserved
-loop-i-preserved c = (
-  omega arith,
-  more (w c) (g c) (s c) (start c).args.n (i c) (loop c).loop-i.slopes (loop c).loop-i.invariant.1 (low c) (start c).requires.n_bound _
-      (total_is (before c) (weight c) (step c) (weight_small c) (step_small c (i c) (below c)) (sum_small c)),
-)
+loop-i-preserved c = next c.args.self c.loop-i.i (omega arith) c.loop-i.slopes c.loop-i.invariant
 
 pub returns : goal.returns
-returns c = let l = c.loop-i in
-    let x = c.args in
-    let e : l.i ≡ x.n = omega arith in
-    record { at = λ k h. l.invariant.1.at k h ∙ whole x.n l.i k (number x.weights.now) (label_in x.labels.now) (run_in x.runs.now) e }
+returns c = let f = c.args.self in
+    let e : c.loop-i.i ≡ f.variables = omega arith in
+    record { at = λ k h. c.loop-i.invariant.at k h ∙ whole f.variables c.loop-i.i k (number f.weights.now) (label_in f.state.now.labels) (run_in f.state.now.runs) e }
