@@ -2,6 +2,8 @@
 
 -- rows of one width, one behind the other: `laid`, `next_row`
 pub mod ReportRows
+-- the rows of a map: `none`, `more`
+pub mod MapRows
 -- the rows of a sheet
 pub mod SheetRows
 -- the number that is chosen for a variable is within the range: `number_Within`

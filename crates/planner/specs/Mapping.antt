@@ -3,6 +3,7 @@ use Rattle.std.specs.Prelude.{List, ℕ, ◌<◌, length, get_or}
 use Rattle.jobs.specs.Structure.{Structure}
 use Rattle.families.specs.ModelFindings.{leads_by, component_by}
 use Rattle.solver.specs.StateArrays.{label_in}
+use Rattle.solver.specs.Structured.{kind_in}
 use Rattle.solver.specs.declared.structure.Structure.{Structure as Found}
 
 -- each of the first m numbers is below n
@@ -18,5 +19,5 @@ structure_in t n m = record {
   component = component_by (label_in t.labels) n;
   degree = λ i. get_or t.degrees i 0;
   equation_component = λ k. component_by (label_in t.labels) n (get_or t.homes k 0);
-  kind = λ k. get_or t.kinds k 0;
+  kind = kind_in t.kinds;
 }

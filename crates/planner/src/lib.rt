@@ -4,41 +4,33 @@
 #![tactic(auto)]
 
 ghost use Rattle.std.specs.Prelude.{◌≡◌, ◌+◌, ◌*◌, ◌≤◌, ◌↔◌, IsTrue, length};
-ghost use Rattle.std.proofs.Math.Option.{none};
-ghost use Rattle.jobs.specs.Call.{call_of, lending_nothing};
-ghost use Rattle.jobs.specs.Job.{job_of, variable_count, equation_count};
-ghost use Rattle.jobs.specs.Amendments.{amended};
+ghost use Rattle.jobs.specs.Call.{call_of};
 ghost use Rattle.jobs.specs.Solution.{number};
 ghost use Rattle.jobs.specs.Component.{component_count};
 ghost use Rattle.jobs.specs.SheetOffsets.{sheet_length};
-ghost use Rattle.jobs.specs.Lawful.{Lawful};
 ghost use Rattle.jobs.specs.ReasonTable.{Shorter};
 ghost use Rattle.jobs.specs.Faults.{first_broken};
 ghost use Rattle.jobs.specs.Findings.{findings};
-ghost use Rattle.jobs.specs.Verdict.{planned, fitting, verdict};
+ghost use Rattle.jobs.specs.Verdict.{fitting};
 ghost use Rattle.jobs.specs.SheetLayout.{sheet_of};
-ghost use Rattle.jobs.specs.AreasAfter.{sheet_after, areas_after};
+ghost use Rattle.jobs.specs.AreasAfter.{sheet_after};
 ghost use Rattle.jobs.specs.Demands.{UntouchedUnless, Plans};
-ghost use Rattle.families.specs.ModelFindings.{leads_by, findings_by};
+ghost use Rattle.families.specs.ModelFindings.{findings_by};
 ghost use Rattle.solver.specs.StateArrays.{label_in, run_in};
-ghost use Rattle.solver.specs.Labels.{Lowest};
 ghost use Rattle.little_endian.specs.Over.{over};
-ghost use Rattle.planner.specs.Choice.{Members, NoneEmpty, AllWithin};
 ghost use Rattle.planner.specs.Outcome.{verdict_of, refusal_of, outcome_of, fit_verdict};
 ghost use Rattle.planner.specs.Lending.{lent_in, SameBorrows};
-ghost use Rattle.planner.specs.Survey.{Surveyed};
+ghost use Rattle.planner.specs.Survey.{job_accepted, Surveyed};
 
 use choose::{Chosen, Families};
-use jobs::{Bounds, Checked, header};
+use jobs::{Accepted, Bounds};
 use reasons::Reason;
 use runs::Run;
-use solver::structure::Structure;
+use solver::structure::{Kind, Structure};
 use solver::{State, components, equations, structure, variables};
 
 // the choice in each component
 mod choose;
-// the mark of a report
-mod mark;
 // the sheet
 mod sheet;
 // the map
@@ -108,75 +100,57 @@ fn attempt(job: &[u8], amendments: &[u8], areas: &mut Areas) -> Result<Fit, Reas
     ensures first_broken_rule { refusal_of (outcome_of result) ≡ first_broken (call_of job.now amendments.now (lent_in areas.old)) }
     ensures unlent { UntouchedUnless areas.old.lent.map areas.old.map.now areas.new.map.now }
 {
-    if let Checked::Refused(reason) = jobs::check_amended(job, amendments) {
-        return Err(reason);
-    }
-    let n = header::variable_count(job);
-    let m = header::equation_count(job);
-    let g = surveyed(job, amendments, areas, n, m)?;
+    let accepted = Accepted::of(job, amendments)?;
+    let g = surveyed(accepted, areas)?;
     let sheet = &mut *areas.sheet;
-    Ok(solved(job, amendments, sheet, n, m, g))
+    Ok(solved(accepted, sheet, g))
 }
 
-// The number of components of a job with n variables and m equations, where the areas are long enough for it; the map is then written,
-// if its area is lent. The arrays of the job's structure end here, so that their stack serves the families too.
-fn surveyed(
-    job: &[u8],
-    amendments: &[u8],
-    areas: &mut Areas,
-    n: usize,
-    m: usize,
-) -> Result<usize, Reason>
-    requires accepted { first_broken (lending_nothing job.now amendments.now) ≡ none }
-    requires n_value { n ≡ variable_count job.now }
-    requires m_value { m ≡ equation_count job.now }
+// The number of components of the job, where the areas are long enough for it; the map is then written, if its area is lent. The arrays
+// of the job's structure end here, so that their stack serves the families too.
+fn surveyed(accepted: Accepted, areas: &mut Areas) -> Result<usize, Reason>
     ensures same { SameBorrows areas.old areas.new }
     ensures sheet { areas.new.sheet.now ≡ areas.old.sheet.now }
-    ensures surveyed { Surveyed job.now amendments.now areas.old areas.new.map.now result }
+    ensures surveyed { Surveyed accepted.entry areas.old areas.new.map.now result }
 {
+    let shape = accepted.job.job.shape;
     let mut structure = Structure {
         labels: [0; 256],
         degrees: [0; 256],
         homes: [0; 1024],
-        kinds: [0; 1024],
+        kinds: [Kind::Joins; 1024],
     };
-    structure::of_job(job, n, m, &mut structure);
-    let g = components::count(&structure.labels, n);
-    if areas.sheet.len() < sheet::length(n, g) {
+    structure::of_job(accepted.job, &mut structure);
+    let g = components::count(&structure.labels, shape.variables);
+    if areas.sheet.len() < sheet::length(shape, g) {
         return Err(Reason::ShortArea);
     }
-    if areas.is_map_short(map::length(n, m)) {
+    if areas.is_map_short(map::length(shape)) {
         return Err(Reason::ShortMap);
     }
     if areas.lent.map {
         let map = &mut *areas.map;
-        map::write(map, &structure, n, m, g);
+        map::write(map, &structure, shape, g);
     }
     Ok(g)
 }
 
-// The plan of a job with n variables in g components and m equations, into an area that is long enough.
-fn solved(job: &[u8], amendments: &[u8], area: &mut [u8], n: usize, m: usize, g: usize) -> Fit
-    requires amendments_value { first_broken (lending_nothing job.now amendments.now) ≡ none }
-    requires n_value { n ≡ variable_count job.now }
-    requires m_value { m ≡ equation_count job.now }
-    requires g_value { g ≡ component_count (amended job.now amendments.now) }
-    requires amendments_in_bounds { sheet_length (amended job.now amendments.now) ≤ length area.old }
-    ensures fits { fit_verdict result ≡ fitting (amended job.now amendments.now) }
-    ensures area_after { area.new ≡ sheet_after (findings (amended job.now amendments.now)) (fitting (amended job.now amendments.now)) area.old }
+// The plan of a job with g components, into an area that is long enough.
+fn solved(accepted: Accepted, area: &mut [u8], g: usize) -> Fit
+    requires components { g ≡ component_count (job_accepted accepted) }
+    requires room { sheet_length (job_accepted accepted) ≤ length area.old }
+    ensures fits { fit_verdict result ≡ fitting (job_accepted accepted.entry) }
+    ensures area_after { area.new ≡ sheet_after (findings (job_accepted accepted.entry)) (fitting (job_accepted accepted.entry)) area.old }
 {
-    let mut bounds: [Bounds; 256] = [Bounds { low: 0, high: 0 }; 256];
-    let mut weights: [i64; 256] = [0; 256];
-    variables::in_force(job, amendments, &mut bounds, &mut weights, n);
+    let n = accepted.job.job.shape.variables;
+    let mut bounds = [Bounds { low: 0, high: 0 }; 256];
+    let mut weights = [0; 256];
+    variables::in_force(accepted, &mut bounds, &mut weights);
     let mut state = State {
         labels: [0; 256],
-        runs: [Run {
-            first: 0,
-            step: 0,
-            many: 0,
-        }; 256],
+        runs: [Run::empty(); 256],
     };
-    equations::families(job, &bounds, n, m, &mut state);
+    equations::families(accepted.job, &bounds, &mut state);
     match choose::first_empty(&state.runs, n) {
         Some(variable) => Fit::NoFit(variable),
         None => {

@@ -1,90 +1,75 @@
 //! The map, written into the map area where one is lent: a header, a row for each variable, and a row for each equation.
 
-ghost use Rattle.std.specs.Prelude.{◌≡◌, ◌+◌, ◌*◌, ◌≤◌, length, get_or};
+ghost use Rattle.std.specs.Prelude.{◌≡◌, ◌+◌, ◌*◌, ◌≤◌, length};
 ghost use Rattle.little_endian.specs.Over.{over};
-ghost use Rattle.jobs.specs.MapLayout.{map_header, map_row, map_rows, map_of};
+ghost use Rattle.jobs.specs.MapLayout.{map_header, map_row, map_of};
 ghost use Rattle.families.specs.ModelFindings.{leads_by};
 ghost use Rattle.solver.specs.StateArrays.{label_in};
 ghost use Rattle.solver.specs.Labels.{Lowest};
+ghost use Rattle.solver.specs.Structured.{number_of};
 ghost use Rattle.planner.specs.Mapping.{AllBelow, structure_in};
 
-use crate::mark;
+use jobs::Shape;
 use solver::components;
-use solver::structure::Structure;
+use solver::structure::{Kind, Structure};
 
 // The mark of a map.
 const MARK: [u8; 4] = *b"MAP1";
 
-// How long it is, for n variables and m equations.
-pub(crate) fn length(n: usize, m: usize) -> usize
-    requires n_bound { n ≤ 256 }
-    requires m_bound { m ≤ 1024 }
-    ensures { result ≡ 24 + 4 * n + 4 * m }
+// How long it is.
+pub(crate) fn length(shape: Shape) -> usize
+    ensures { result ≡ 24 + 4 * shape.variables + 4 * shape.equations }
 {
-    24 + 4 * n + 4 * m
+    24 + 4 * shape.variables + 4 * shape.equations
 }
 
-// All of it, for n variables in g components and m equations. What lies behind it stays.
-pub(crate) fn write(map: &mut [u8], structure: &Structure, n: usize, m: usize, g: usize)
-    requires n_bound { n ≤ 256 }
-    requires m_bound { m ≤ 1024 }
-    requires lowest { Lowest structure.now.labels n }
-    requires all_below { AllBelow n structure.now.homes m }
-    requires g_value { g ≡ length (leads_by (label_in structure.now.labels) n) }
-    requires m_in_bounds { 24 + 4 * n + 4 * m ≤ length map.old }
-    ensures { map.new ≡ over 0 (map_of (structure_in structure.now n m)) map.old }
+// All of it, for a job of this shape with g components. What lies behind it stays. A variable's label is in its own component.
+pub(crate) fn write(map: &mut [u8], structure: &Structure, shape: Shape, g: usize)
+    requires lowest { Lowest structure.now.labels shape.variables }
+    requires all_below { AllBelow shape.variables structure.now.homes shape.equations }
+    requires counted { g ≡ length (leads_by (label_in structure.now.labels) shape.variables) }
+    requires room { 24 + 4 * shape.variables + 4 * shape.equations ≤ length map.old }
+    ensures { map.new ≡ over 0 (map_of (structure_in structure.now shape.variables shape.equations)) map.old }
 {
-    let labels = &structure.labels;
-    let degrees = &structure.degrees;
-    let homes = &structure.homes;
-    let kinds = &structure.kinds;
-    let numbers = components::numbers(labels, n);
-    header(map, n, m, g);
-    rows(map, 24, &numbers, labels, degrees, n);
-    rows(map, 24 + 4 * n, &numbers, homes, kinds, m);
-}
-
-fn header(map: &mut [u8], n: usize, m: usize, g: usize)
-    requires n_bound { n ≤ 256 }
-    requires m_bound { m ≤ 1024 }
-    requires g_bound { g ≤ 256 }
-    requires in_bounds { 24 ≤ length map.old }
-    ensures { map.new ≡ over 0 (map_header n m g) map.old }
-{
-    mark::put(map, MARK);
-    little_endian::put(map, 4, 2, n as u64);
-    little_endian::put(map, 6, 2, m as u64);
-    little_endian::put(map, 8, 4, 24);
-    little_endian::put(map, 12, 4, 24 + 4 * n as u64);
-    little_endian::put(map, 16, 2, g as u64);
-    little_endian::put(map, 18, 6, 0);
-}
-
-// Rows from a place on: each has the number of the component of its home, and a second number. A variable's label is a home of its own,
-// since the two are in one component.
-fn rows(
-    map: &mut [u8],
-    from: usize,
-    numbers: &[u16; 256],
-    homes: &[u16],
-    seconds: &[u16],
-    count: usize,
-)
-    requires count_in_bounds { from + 4 * count ≤ length map.old }
-    requires all_below { AllBelow 256 homes.now count }
-    requires count_in_bounds_2 { count ≤ length homes.now }
-    requires count_in_bounds_3 { count ≤ length seconds.now }
-    ensures { map.new ≡ over from (map_rows (λ i. get_or numbers.now (get_or homes.now i 0) 0) (λ i. get_or seconds.now i 0) count) map.old }
-{
-    for i in 0..count {
-        row(map, from + 4 * i, numbers[homes[i] as usize], seconds[i]);
+    let numbers = components::numbers(&structure.labels, shape.variables);
+    header(map, shape, g);
+    for i in 0..shape.variables {
+        let group = numbers[structure.labels[i] as usize];
+        row(map, 24 + 4 * i, group, structure.degrees[i]);
+    }
+    let rows = 24 + 4 * shape.variables;
+    for k in 0..shape.equations {
+        let group = numbers[structure.homes[k] as usize];
+        row(map, rows + 4 * k, group, number(structure.kinds[k]));
     }
 }
 
-fn row(map: &mut [u8], at: usize, x: u16, y: u16)
-    requires { at + 4 ≤ length map.old }
-    ensures { map.new ≡ over at (map_row x y) map.old }
+// The number of a kind in the map.
+fn number(kind: Kind) -> u16
+    ensures { result ≡ number_of kind }
 {
-    little_endian::put(map, at, 2, x as u64);
-    little_endian::put(map, at + 2, 2, y as u64);
+    kind as u16
+}
+
+fn header(map: &mut [u8], shape: Shape, g: usize)
+    requires g_bound { g ≤ 256 }
+    requires room { 24 ≤ length map.old }
+    ensures { map.new ≡ over 0 (map_header shape.variables shape.equations g) map.old }
+{
+    little_endian::put(map, 0, &MARK);
+    little_endian::put(map, 4, &(shape.variables as u16).to_le_bytes());
+    little_endian::put(map, 6, &(shape.equations as u16).to_le_bytes());
+    little_endian::put(map, 8, &24_u32.to_le_bytes());
+    little_endian::put(map, 12, &(24 + 4 * shape.variables as u32).to_le_bytes());
+    little_endian::put(map, 16, &(g as u16).to_le_bytes());
+    little_endian::put(map, 18, &[0; 6]);
+}
+
+// The row of a variable or of an equation: the number of its component, and how many equations name it, or its kind.
+fn row(map: &mut [u8], at: usize, group: u16, second: u16)
+    requires { at + 4 ≤ length map.old }
+    ensures { map.new ≡ over at (map_row group second) map.old }
+{
+    little_endian::put(map, at, &group.to_le_bytes());
+    little_endian::put(map, at + 2, &second.to_le_bytes());
 }

@@ -12,21 +12,20 @@ ghost use Rattle.little_endian.specs.Over.{over};
 ghost use Rattle.planner.specs.Choice.{chosen_in};
 ghost use Rattle.planner.specs.Chosen.{findings_of};
 
-use crate::choose::Chosen;
-use crate::{choose, mark};
+use crate::choose::{self, Chosen, Families};
+use jobs::Shape;
 use runs::Run;
 use solver::components;
 
 // The mark of a sheet.
 const MARK: [u8; 4] = *b"ANS1";
 
-// How long it is, for n variables in g components.
-pub(crate) fn length(n: usize, g: usize) -> usize
-    requires n_bound { n ≤ 256 }
-    requires g_bound { g ≤ 256 }
-    ensures { result ≡ 24 + 16 * n + 16 * g }
+// How long it is, for a job of this shape with g components.
+pub(crate) fn length(shape: Shape, g: usize) -> usize
+    requires { g ≤ 256 }
+    ensures { result ≡ 24 + 16 * shape.variables + 16 * g }
 {
-    24 + 16 * n + 16 * g
+    24 + 16 * shape.variables + 16 * g
 }
 
 // All of it. What lies behind it stays.
@@ -36,24 +35,27 @@ pub(crate) fn write(area: &mut [u8], chosen: Chosen)
 {
     let n = chosen.families.variables;
     let components = components::numbers(&chosen.families.state.labels, n);
-    header(area, n, chosen.families.components, chosen.worth);
+    header(area, chosen);
     variables(area, chosen, &components);
     let rows = 24 + 16 * n;
     group_rows(&mut area[rows..], chosen);
 }
 
-fn header(area: &mut [u8], n: usize, g: usize, worth: i64)
-    requires n_bound { n ≤ 256 }
-    requires g_bound { g ≤ 256 }
-    requires in_bounds { 24 ≤ length area.old }
-    ensures { area.new ≡ over 0 (sheet_header n g worth) area.old }
+fn header(area: &mut [u8], chosen: Chosen)
+    requires { 24 ≤ length area.old }
+    ensures { area.new ≡ over 0 (sheet_header chosen.entry.families.variables chosen.entry.families.components chosen.entry.worth) area.old }
 {
-    mark::put(area, MARK);
-    little_endian::put(area, 4, 2, n as u64);
-    little_endian::put(area, 6, 2, g as u64);
-    little_endian::put(area, 8, 4, 24);
-    little_endian::put(area, 12, 4, 24 + 16 * n as u64);
-    little_endian::put_i64(area, 16, worth);
+    let Families {
+        variables,
+        components,
+        ..
+    } = chosen.families;
+    little_endian::put(area, 0, &MARK);
+    little_endian::put(area, 4, &(variables as u16).to_le_bytes());
+    little_endian::put(area, 6, &(components as u16).to_le_bytes());
+    little_endian::put(area, 8, &24_u32.to_le_bytes());
+    little_endian::put(area, 12, &(24 + 16 * variables as u32).to_le_bytes());
+    little_endian::put(area, 16, &chosen.worth.to_le_bytes());
 }
 
 // The row of a variable, from a place on.
@@ -63,11 +65,11 @@ fn variable(area: &mut [u8], at: usize, number: i64, run: Run, group: u16)
     requires family_run { FamilyRun run }
     ensures { area.new ≡ over at (sheet_variable number run group) area.old }
 {
-    little_endian::put_i32(area, at, number);
-    little_endian::put_i32(area, at + 4, run.first);
-    little_endian::put_i32(area, at + 8, run.step);
-    little_endian::put(area, at + 12, 2, group as u64);
-    little_endian::put(area, at + 14, 2, 0);
+    little_endian::put(area, at, &(number as i32).to_le_bytes());
+    little_endian::put(area, at + 4, &(run.first as i32).to_le_bytes());
+    little_endian::put(area, at + 8, &(run.step as i32).to_le_bytes());
+    little_endian::put(area, at + 12, &group.to_le_bytes());
+    little_endian::put(area, at + 14, &[0; 2]);
 }
 
 // The rows of the variables, with the numbers of their components.
@@ -92,9 +94,9 @@ fn group(area: &mut [u8], at: usize, many: u32, slope: i64)
     requires some { 1 ≤ many }
     ensures { area.new ≡ over at (sheet_group many (choice slope many) slope) area.old }
 {
-    little_endian::put(area, at, 4, many as u64);
-    little_endian::put(area, at + 4, 4, choose::choice(slope, many) as u64);
-    little_endian::put_i64(area, at + 8, slope);
+    little_endian::put(area, at, &many.to_le_bytes());
+    little_endian::put(area, at + 4, &choose::choice(slope, many).to_le_bytes());
+    little_endian::put(area, at + 8, &slope.to_le_bytes());
 }
 
 // The rows of the groups, into the part of the answer area that they fill.

@@ -10,10 +10,11 @@ use Rattle.little_endian.proofs.Over.{over_all}
 use Rattle.jobs.specs.Call.{Call, lent_as, areas_of, lending_nothing, call_of, on_lent}
 use lib.ListN.{length}
 use borrow.Author.Rules.{rules}
-use Rattle.jobs.specs.declared.Checked.{Checked}
-use Rattle.jobs.specs.declared.Checked.TheVariants.{Accepted}
 use Rattle.jobs.specs.Amendments.{amended}
-use Rattle.jobs.specs.Faults.{first_broken, fault_of}
+use Rattle.jobs.specs.Faults.{first_broken}
+use Rattle.jobs.specs.Demands.{Plans}
+use Rattle.jobs.specs.declared.Accepted.{Accepted}
+use Rattle.planner.specs.Survey.{job_accepted, call_accepted}
 use Rattle.jobs.specs.Structure.{Structure, structure}
 use Rattle.jobs.specs.MapLayout.{map_of}
 use Rattle.jobs.specs.Verdict.{Verdict, fitting}
@@ -46,67 +47,57 @@ not_refused : (f : Fit) → refusal_of (outcome_of (Ok f)) ≡ none
 not_refused (Planned w) = refl
 not_refused (NoFit l) = refl
 
--- where the check accepts
-accepted : (s a : List ℕ) {x : Checked} → x ≡ Accepted → fault_of x ≡ first_broken (lending_nothing s a) → first_broken (lending_nothing s a) ≡ none
-accepted s a e f = sym f ∙ ap fault_of e
+-- the call, by what the check accepts of it
+as_called : (x : Accepted) (lent : Areas) {s a : List ℕ} → x.job.job.bytes.now ≡ s → x.amendments.bytes.now ≡ a → call_accepted x lent ≡ call_of s a (lent_in lent)
+as_called x lent p q = ap₂ (λ s a. call_of s a (lent_in lent)) p q
 
-pub returns-in-Refused : goal.returns-in-Refused
-returns-in-Refused c = let x = c.args in
+pub returns-in_err-accepted : goal.returns-in_err-accepted
+returns-in_err-accepted c = let x = c.args in
     let call = call_of x.job.now x.amendments.now (lent_in x.areas.now) in
-    let r = c.in-Refused.reason in
-    let e = fault_checked call r (sym c.check_amended.ensures.result_value ∙ ap fault_of c.in-Refused.is) in
-    let (p, q) = as_broken call r e in
-    record { same = search rules; plans = promised call (sym p) (sym q); first_broken_rule = sym e; unlent = λ e. refl }
-
-pub variable_count-n-requires : goal.variable_count-n-requires
-variable_count-n-requires c = let x = c.args in
-    omega (arith, (lawful (lending_nothing x.job.now x.amendments.now) (accepted x.job.now x.amendments.now c.in_default.is c.check_amended.ensures.result_value)).rows.whole)
-
-pub equation_count-m-requires : goal.equation_count-m-requires
-equation_count-m-requires c = let x = c.args in
-    omega (arith, (lawful (lending_nothing x.job.now x.amendments.now) (accepted x.job.now x.amendments.now c.in_default.is c.check_amended.ensures.result_value)).rows.whole)
-
-pub surveyed-requires : goal.surveyed-requires
-surveyed-requires c = let x = c.args in
-    record { accepted = accepted x.job.now x.amendments.now c.in_default.is c.check_amended.ensures.result_value; n_value = c.variable_count-n.ensures; m_value = c.equation_count-m.ensures }
+    let r = c.in_err-accepted.field-0.0 in
+    let e : c.from_residual.result ≡ Err r = search rules in
+    let first = fault_checked call r (sym c.in_err-accepted.ensures.first_fault) in
+    let (p, q) = as_broken call r first in record {
+      same = search rules;
+      plans = promised call (ap (λ x. verdict_of (outcome_of x)) e ∙ sym p) (sym q);
+      first_broken_rule = ap (λ x. refusal_of (outcome_of x)) e ∙ sym first;
+      unlent = λ d. refl;
+    }
 
 pub returns-in_err-g : goal.returns-in_err-g
 returns-in_err-g c = let x = c.args in
-    let call = call_of x.job.now x.amendments.now (lent_in x.areas.now) in
+    let lent = x.areas.now in
+    let after = c.surveyed.new.areas in
+    let call = call_of x.job.now x.amendments.now (lent_in lent) in
     let k = c.in_err-g.ensures in
-    let t = k.surveyed in
-    let e : c.from_residual.result ≡ Err c.in_err-g.field-0.0 = search rules in
-    let (p, q) = as_broken call c.in_err-g.field-0.0 t.first in record {
+    let r = c.in_err-g.field-0.0 in
+    let e : c.from_residual-in_err-g.result ≡ Err r = search rules in
+    let o = c.in_ok-accepted.ensures in
+    let first = sym (ap first_broken (as_called c.in_ok-accepted.accepted lent o.job_opened o.amendments_opened)) ∙ k.surveyed.first in
+    let (p, q) = as_broken call r first in record {
       same = k.same;
       plans = promised call (ap (λ x. verdict_of (outcome_of x)) e ∙ sym p)
-          (ap (λ l. areas_in l c.surveyed.new.areas.sheet.now c.surveyed.new.areas.map.now) k.same.lent ∙ ap₂ (areas_in x.areas.now.lent) k.sheet t.untouched ∙ sym q);
-      first_broken_rule = ap (λ x. refusal_of (outcome_of x)) e ∙ sym t.first;
-      unlent = λ d. t.untouched;
-    }
-
-pub solved-requires : goal.solved-requires
-solved-requires c = let x = c.args in
-    let k = c.in_ok-g.ensures in
-    record {
-      amendments_value = accepted x.job.now x.amendments.now c.in_default.is c.check_amended.ensures.result_value;
-      n_value = c.variable_count-n.ensures;
-      m_value = c.equation_count-m.ensures;
-      g_value = k.surveyed.components;
-      amendments_in_bounds = omega (arith, k.surveyed.room, ap length k.sheet);
+          (ap (λ l. areas_in l after.sheet.now after.map.now) k.same.lent ∙ ap₂ (areas_in lent.lent) k.sheet k.surveyed.untouched ∙ sym q);
+      first_broken_rule = ap (λ x. refusal_of (outcome_of x)) e ∙ sym first;
+      unlent = λ d. k.surveyed.untouched;
     }
 
 pub returns : goal.returns
-returns c = let x = c.args in
-    let call = call_of x.job.now x.amendments.now (lent_in x.areas.now) in
+returns c = let x = c.in_ok-accepted.accepted in
+    let j = job_accepted x in
+    let lent = c.args.areas.now in
     let k = c.in_ok-g.ensures in
     let f = k.surveyed in
-    let j = amended x.job.now x.amendments.now in
-    let (p, q) = as_fitting call f.none_broken in record {
+    let o = c.in_ok-accepted.ensures in
+    let called = as_called x lent o.job_opened o.amendments_opened in
+    let (p, q) = as_fitting (call_accepted x lent) f.none_broken in record {
       same = record { sheet = k.same.sheet; map = k.same.map; lent = k.same.lent };
-      plans = promised call (settled c.solved.result ∙ c.solved.ensures.fits ∙ sym p) (ap (λ l. areas_in l c.solved.new.area c.surveyed.new.areas.map.now) k.same.lent
+      plans = subst (λ call. Plans call (verdict_of (outcome_of (Ok c.solved.result))) (areas_in c.surveyed.new.areas.lent c.solved.new.area c.surveyed.new.areas.map.now)) called
+          (promised (call_accepted x lent) (settled c.solved.result ∙ c.solved.ensures.fits ∙ sym p)
+          (ap (λ l. areas_in l c.solved.new.area c.surveyed.new.areas.map.now) k.same.lent
           ∙ ap₂ areas_of (c.solved.ensures.area_after ∙ ap (sheet_after (findings j) (fitting j)) k.sheet)
-          (ap (lent_as x.areas.now.lent.map) f.written ∙ mapped (structure j) (fitting j) x.areas.now.lent.map x.areas.now.map.now (fitting-Mapped j))
-          ∙ sym q);
-      first_broken_rule = not_refused c.solved.result ∙ sym f.none_broken;
-      unlent = λ e. f.written ∙ ap (λ t. cond t (over 0 (map_of (structure j)) x.areas.now.map.now) x.areas.now.map.now) e;
+          (ap (lent_as lent.lent.map) f.written ∙ mapped (structure j) (fitting j) lent.lent.map lent.map.now (fitting-Mapped j))
+          ∙ sym q));
+      first_broken_rule = not_refused c.solved.result ∙ sym f.none_broken ∙ ap first_broken called;
+      unlent = λ e. f.written ∙ ap (λ t. cond t (over 0 (map_of (structure j)) lent.map.now) lent.map.now) e;
     }

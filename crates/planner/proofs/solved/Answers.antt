@@ -8,7 +8,10 @@ use lib.ListN.{length}
 use Rattle.ints.specs.Within.{Within}
 use Rattle.lists.specs.Table.{Tabulates}
 use Rattle.jobs.specs.Call.{Call, lending_nothing}
-use Rattle.jobs.specs.Job.{Job, job_of, variable_count, equation_count}
+use Rattle.jobs.specs.declared.Accepted.{Accepted}
+use Rattle.jobs.specs.Job.{Job, job_of}
+use Rattle.jobs.proofs.Faults.{none_broken}
+use Rattle.planner.specs.Survey.{job_accepted}
 use Rattle.jobs.specs.declared.Bounds.{Bounds}
 use Rattle.jobs.specs.Bounds.{no_bounds, with_bounds, Bounded, BoundedBy}
 use Rattle.jobs.specs.Amendments.{amendments_of, bounds_in_force, amended}
@@ -37,24 +40,31 @@ use Rattle.solver.proofs.LabelsOfJob.{vars}
 use Rattle.planner.proofs.StateOfJob.{labels, members, counted, found, full, objective-best, area_best}
 use Rattle.planner.proofs.solved.Goals as goal
 
-module _ (job amendments : List ℕ) (accepted : first_broken (lending_nothing job amendments) ≡ none) (n m : ℕ) (p : n ≡ variable_count job) (q : m ≡ equation_count job) where
+-- of what the check accepts
+module _ (x : Accepted) where
+  abbrev job : List ℕ
+  job = x.job.job.bytes.now
+
+  abbrev amendments : List ℕ
+  amendments = x.amendments.bytes.now
+
   abbrev call : Call
   call = lending_nothing job amendments
 
   abbrev j : Job
-  j = amended job amendments
+  j = job_accepted x
 
-  rows_Lawful : Lawful job
-  rows_Lawful = lawful-job call accepted
+  abbrev n : ℕ
+  n = x.job.job.shape.variables
+
+  accepted : first_broken call ≡ none
+  accepted = none_broken call x.faultless
 
   lawful : LawfulJob j
   lawful = lawful_amended call accepted
 
-  few : n ≤ 256
-  few = omega (arith, p, rows_Lawful.rows.variables)
-
   n_rows : n ≡ length (job_of job).variables
-  n_rows = vars job n m p q
+  n_rows = vars job n x.job.job.shape.equations x.job.job.variables_counted x.job.job.equations_counted
 
   n_all : n ≡ length j.variables
   n_all = n_rows ∙ sym (amended-length job amendments)
@@ -118,42 +128,29 @@ module _ (job amendments : List ℕ) (accepted : first_broken (lending_nothing j
   kept l e a = ap (λ v. sheet_after (findings j) v a) e
 
 pub families-requires : goal.families-requires
-families-requires c = let x = c.args in
-    let r = c.requires in record {
-      lawful = rows_Lawful x.job.now x.amendments.now r.amendments_value x.n x.m r.n_value r.m_value;
-      n_value = r.n_value;
-      m_value = r.m_value;
-      bounded_by = bounded x.job.now x.amendments.now r.amendments_value x.n x.m r.n_value r.m_value c.in_force.new.bounds c.in_force.ensures.bounds_of;
-    }
-
-pub first_empty-requires : goal.first_empty-requires
-first_empty-requires c = let x = c.args in let r = c.requires in few x.job.now x.amendments.now r.amendments_value x.n x.m r.n_value r.m_value
+families-requires c = bounded c.args.accepted c.in_force.new.bounds c.in_force.ensures.bounds_of
 
 pub returns-in-Some : goal.returns-in-Some
-returns-in-Some c = let x = c.args in
-    let r = c.requires in
+returns-in-Some c = let x = c.args.accepted in
     let l = c.in-Some.variable in
-    let e = without x.job.now x.amendments.now r.amendments_value x.n x.m r.n_value r.m_value c.in_force.new.bounds c.in_force.ensures.bounds_of c.in_force.new.weights c.in_force.ensures.weights_of c.families.new.state c.families.ensures l (c.in-Some.ensures) in
-    record { fits = e; area_after = kept x.job.now x.amendments.now r.amendments_value x.n x.m r.n_value r.m_value l e x.area.now }
+    let e = without x c.in_force.new.bounds c.in_force.ensures.bounds_of c.in_force.new.weights c.in_force.ensures.weights_of c.families.new.state c.families.ensures l c.in-Some.ensures in
+    record { fits = e; area_after = kept x l e c.args.area.now }
 
 pub invariant_of-families : goal.invariant_of-families
-invariant_of-families c = let x = c.args in
-    let r = c.requires in record {
-      few = few x.job.now x.amendments.now r.amendments_value x.n x.m r.n_value r.m_value;
-      weights_small = weighed x.job.now x.amendments.now r.amendments_value x.n x.m r.n_value r.m_value c.in_force.new.bounds c.in_force.ensures.bounds_of c.in_force.new.weights c.in_force.ensures.weights_of c.families.new.state c.families.ensures;
-      lowest = low x.job.now x.amendments.now r.amendments_value x.n x.m r.n_value r.m_value c.in_force.new.bounds c.in_force.ensures.bounds_of c.in_force.new.weights c.in_force.ensures.weights_of c.families.new.state c.families.ensures;
-      members = of_members x.job.now x.amendments.now r.amendments_value x.n x.m r.n_value r.m_value c.in_force.new.bounds c.in_force.ensures.bounds_of c.in_force.new.weights c.in_force.ensures.weights_of c.families.new.state c.families.ensures;
-      none_empty = c.in-None.ensures;
-      counted = grouped x.job.now x.amendments.now r.amendments_value x.n x.m r.n_value r.m_value c.in_force.new.bounds c.in_force.ensures.bounds_of c.in_force.new.weights c.in_force.ensures.weights_of c.families.new.state c.families.ensures x.g r.g_value;
-    }
+invariant_of-families c = let x = c.args.accepted in record {
+  few = x.job.job.shape.few_variables;
+  weights_small = weighed x c.in_force.new.bounds c.in_force.ensures.bounds_of c.in_force.new.weights c.in_force.ensures.weights_of c.families.new.state c.families.ensures;
+  lowest = low x c.in_force.new.bounds c.in_force.ensures.bounds_of c.in_force.new.weights c.in_force.ensures.weights_of c.families.new.state c.families.ensures;
+  members = of_members x c.in_force.new.bounds c.in_force.ensures.bounds_of c.in_force.new.weights c.in_force.ensures.weights_of c.families.new.state c.families.ensures;
+  none_empty = c.in-None.ensures;
+  counted = grouped x c.in_force.new.bounds c.in_force.ensures.bounds_of c.in_force.new.weights c.in_force.ensures.weights_of c.families.new.state c.families.ensures c.args.g c.requires.components;
+}
 
 pub written-requires : goal.written-requires
-written-requires c = let x = c.args in
-    let r = c.requires in omega (arith, n_all x.job.now x.amendments.now r.amendments_value x.n x.m r.n_value r.m_value, r.g_value, r.amendments_in_bounds)
+written-requires c = let x = c.args.accepted in omega (arith, n_all x, c.requires.components, c.requires.room)
 
 pub returns-in-None : goal.returns-in-None
-returns-in-None c = let x = c.args in
-    let r = c.requires in record {
-      fits = ap planned (held_element c.written.result c.written.type_inv ∙ c.written.ensures.worth) ∙ with_fits x.job.now x.amendments.now r.amendments_value x.n x.m r.n_value r.m_value c.in_force.new.bounds c.in_force.ensures.bounds_of c.in_force.new.weights c.in_force.ensures.weights_of c.families.new.state c.families.ensures (c.in-None.ensures);
-      area_after = c.written.ensures.area_after ∙ written x.job.now x.amendments.now r.amendments_value x.n x.m r.n_value r.m_value c.in_force.new.bounds c.in_force.ensures.bounds_of c.in_force.new.weights c.in_force.ensures.weights_of c.families.new.state c.families.ensures (c.in-None.ensures) x.area.now;
-    }
+returns-in-None c = let x = c.args.accepted in record {
+  fits = ap planned (held_element c.written.result c.written.type_inv ∙ c.written.ensures.worth) ∙ with_fits x c.in_force.new.bounds c.in_force.ensures.bounds_of c.in_force.new.weights c.in_force.ensures.weights_of c.families.new.state c.families.ensures c.in-None.ensures;
+  area_after = c.written.ensures.area_after ∙ written x c.in_force.new.bounds c.in_force.ensures.bounds_of c.in_force.new.weights c.in_force.ensures.weights_of c.families.new.state c.families.ensures c.in-None.ensures c.args.area.now;
+}

@@ -1,5 +1,5 @@
 -- `row` meets its contract: its fields stand behind each other.
-use mathlib.Core.Path.{◌≡◌, refl}
+use mathlib.Core.Path.{◌≡◌, refl, ◌∙◌}
 use mathlib.Core.List.{List}
 use Prim.Native.Nat.{ℕ, ◌+◌, ◌≤◌}
 use native.Mathlib.Omega.{arith}
@@ -7,7 +7,8 @@ use lib.ListN.{length}
 use Rattle.little_endian.specs.LittleEndian.{bytes_of}
 use Rattle.little_endian.specs.Over.{over}
 use Rattle.little_endian.proofs.LittleEndian.{length-bytes_of}
-use Rattle.little_endian.proofs.Over.{Written, behind_it}
+use Rattle.little_endian.proofs.ToBytes.{u16_bytes}
+use Rattle.little_endian.proofs.Over.{over_same, Written, behind_it}
 use Rattle.jobs.specs.MapLayout.{map_row}
 use Rattle.planner.proofs.map.row.Goals as goal
 
@@ -19,4 +20,6 @@ fields at x y a l₁ l₂ h e₁ e₂ =
 
 pub returns : goal.returns
 returns c = let x = c.args in
-    fields x.at x.x x.y x.map.now _ _ c.requires c.put.ensures c.put-2.ensures
+    fields x.at x.group x.second x.map.now _ _ c.requires
+    (over_same x.at _ _ (c.to_le_bytes.ensures ∙ u16_bytes x.group) c.put.ensures)
+    (over_same (x.at + 2) _ _ (c.to_le_bytes-2.ensures ∙ u16_bytes x.second) c.put-2.ensures)

@@ -10,6 +10,7 @@ use Rattle.jobs.specs.SheetLayout.{sheet_group}
 use Rattle.little_endian.specs.Over.{over}
 use Rattle.little_endian.proofs.LittleEndian.{length-bytes_of}
 use Rattle.little_endian.proofs.TwosComplement.{length-signed_bytes}
+use Rattle.little_endian.proofs.ToBytes.{u32_bytes, i64_bytes}
 use Rattle.little_endian.proofs.Over.{over_same, Written, behind_it}
 use Rattle.planner.proofs.sheet.group.Goals as goal
 
@@ -24,9 +25,7 @@ row at many k slope a l₁ l₂ l₃ h e₁ e₂ e₃ =
 
 pub returns : goal.returns
 returns c = let x = c.args in
-    let k = c.choice in
-    let e = to_z-of_z c.ranges.slope in
     row x.at x.many (choice x.slope x.many) x.slope x.area.now _ _ _ c.requires.at_in_bounds
-    c.put.ensures
-    (over_same (x.at + 4) _ _ (ap (bytes_of 4) (k.ensures ∙ ap (λ g. choice g x.many) e)) c.put-2.ensures)
-    (over_same (x.at + 8) _ _ (ap (signed_bytes 8) e) c.put_i64.ensures)
+    (over_same x.at _ _ (c.to_le_bytes.ensures ∙ u32_bytes x.many) c.put.ensures)
+    (over_same (x.at + 4) _ _ (c.to_le_bytes-2.ensures ∙ u32_bytes c.choice.result ∙ ap (bytes_of 4) (c.choice.ensures ∙ ap (λ g. choice g x.many) (to_z-of_z c.ranges.slope))) c.put-2.ensures)
+    (over_same (x.at + 8) _ _ (i64_bytes c.ranges.slope c.to_le_bytes-3.ensures) c.put-3.ensures)

@@ -1,5 +1,5 @@
 -- `header` meets its contract: its fields stand behind each other.
-use mathlib.Core.Path.{◌≡◌, refl, ap}
+use mathlib.Core.Path.{◌≡◌, refl, ◌∙◌}
 use Prim.Native.Nat.{ℕ, ◌+◌, ◌*◌, ◌≤◌}
 use mir.Facts.{to_z-of_z}
 use lib.ListN.{length}
@@ -9,6 +9,11 @@ use Rattle.jobs.specs.SheetLayout.{answer_mark, sheet_header}
 use Rattle.little_endian.specs.Over.{over}
 use Rattle.little_endian.proofs.LittleEndian.{length-bytes_of}
 use Rattle.little_endian.proofs.TwosComplement.{length-signed_bytes}
+use borrow.Author.Rules.{rules}
+use Rattle.families.specs.ModelFindings.{leads_by}
+use Rattle.solver.specs.StateArrays.{label_in}
+use Rattle.solver.proofs.LowestVariables.{leads_length}
+use Rattle.little_endian.proofs.ToBytes.{u16_bytes, u32_bytes, i64_bytes}
 use Rattle.little_endian.proofs.Over.{over_same, Written, behind_it}
 use Rattle.planner.proofs.sheet.header.Goals as goal
 
@@ -24,12 +29,15 @@ row n g objective a l₁ l₂ l₃ l₄ l₅ l₆ h e₁ e₂ e₃ e₄ e₅ e�
     let w₅ = behind_it w₄ (omega arith) (bytes_of 4 (24 + 16 * n)) e₅ refl (length-bytes_of 4 (24 + 16 * n)) in
     (behind_it w₅ (omega arith) (signed_bytes 8 objective) e₆ refl (length-signed_bytes 8 objective)).is
 
+pub overflow_cast-components : goal.overflow_cast-components
+overflow_cast-components c = let f = c.args.chosen.families in omega (arith, f.counted, leads_length (label_in f.state.now.labels) f.variables, f.few)
+
 pub returns : goal.returns
-returns c = let x = c.args in
-    row x.n x.g x.worth x.area.now _ _ _ _ _ _ c.requires.in_bounds
+returns c = let f = c.args.chosen.families in
+    row f.variables f.components c.args.chosen.worth c.args.area.now _ _ _ _ _ _ c.requires
     c.put.ensures
-    c.put-2.ensures
-    c.put-3.ensures
-    c.put-4.ensures
-    c.put-5.ensures
-    (over_same 16 _ _ (ap (signed_bytes 8) (to_z-of_z c.ranges.worth)) c.put_i64.ensures)
+    (over_same 4 _ _ (c.to_le_bytes.ensures ∙ u16_bytes f.variables) c.put-2.ensures)
+    (over_same 6 _ _ (c.to_le_bytes-2.ensures ∙ u16_bytes f.components) c.put-3.ensures)
+    (over_same 8 _ _ (c.to_le_bytes-3.ensures ∙ u32_bytes 24) c.put-4.ensures)
+    (over_same 12 _ _ (c.to_le_bytes-4.ensures ∙ u32_bytes (24 + 16 * f.variables)) c.put-5.ensures)
+    (over_same 16 _ _ (i64_bytes (search rules) c.to_le_bytes-5.ensures) c.put-6.ensures)

@@ -53,10 +53,6 @@ module _ (labels : List ℕ) (runs : List Run) (slopes numbers : List ℤ) (n g 
       (behind_it w₂ (omega arith) rows_of_groups (over_lent (24 + 16 * n) rows_of_groups l₂ l₃ (omega (arith, long)) e₃) (omega arith)
       (length_groups (run_in runs) (chosen_in runs slopes) (number slopes) (leads_by (label_in labels) n))).is
 
-pub header-requires : goal.header-requires
-header-requires c = let f = c.args.chosen.families in
-    record { n_bound = f.few; g_bound = omega (arith, f.counted, leads_length (label_in f.state.now.labels) f.variables, f.few); in_bounds = omega (arith, c.requires) }
-
 pub returns : goal.returns
 returns c = let x = c.args.chosen in
     let f = x.families in
