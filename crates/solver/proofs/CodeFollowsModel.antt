@@ -14,6 +14,7 @@ use Rattle.ints.proofs.{arith, lin, ◌&◌, facts}
 use Rattle.runs.specs.declared.Equation.{Equation as Form}
 use Rattle.runs.specs.declared.Run.{Run}
 use Rattle.runs.specs.Run.{full}
+use Rattle.runs.proofs.Members.{same_run}
 use Rattle.runs.specs.Search.{meet}
 use Rattle.runs.specs.Workings.{CarryLimits}
 use Rattle.families.specs.FamilyRun.{FamilyRun}
@@ -39,7 +40,6 @@ use Rattle.solver.specs.Widths.{Combinable}
 use Rattle.solver.specs.StateArrays.{run_in}
 use Rattle.solver.specs.Runs.{gathered}
 use Rattle.solver.specs.Steps.{indices_by, Reducible, BothReducible, BothReduce}
-use Rattle.solver.proofs.ReducedRuns.{same_run}
 
 -- the arrays have at each variable what the model has after k equations
 pub record Follows (j : Job) (k : ℕ) (labels : List ℕ) (runs : List Run) : Type 0 where

@@ -16,9 +16,10 @@ use mir.Facts.{to_z-of_z}
 use Rattle.ints.proofs.Signed.{held}
 use Rattle.runs.specs.declared.Run.{Run}
 use Rattle.runs.specs.Run.{empty}
+use Rattle.runs.proofs.Members.{same_run}
 use Rattle.families.specs.FamilyRun.{FamilyRun}
 use Rattle.families.specs.Model.{through}
-use Rattle.families.proofs.Subfamily.{after_left, after_right, after_other}
+use Rattle.families.proofs.Subfamily.{after_left, after_right, after_other, through_many}
 use Rattle.lists.proofs.ArrayPass.{Passed, begin, write, skip, leap}
 use Rattle.solver.specs.StateArrays.{label_in, run_in}
 use Rattle.solver.specs.Labels.{Lowest}
@@ -27,21 +28,9 @@ use Rattle.solver.specs.Runs.{gathered}
 use Rattle.solver.specs.declared.join.Indices.{Indices}
 use Rattle.solver.specs.Steps.{indices_by, Reducible, part_of, Reduces, Stays, both_part, BothReduce}
 
--- a run by its fields
-pub same_run : {r r' : Run} → r.first ≡ r'.first → r.step ≡ r'.step → r.many ≡ r'.many → r ≡ r'
-same_run p q m = λ t. record { first = p t; step = q t; many = m t }
-
--- one whose numbers locals hold
+-- a run whose numbers locals hold
 held_run : (r : Run) (many : ℕ) → SFits w64 r.first → SFits w64 r.step → ◌≡◌ {A = Run} record { first = held r.first; step = held r.step; many = many } (record r { many = many })
 held_run r many f t = same_run (to_z-of_z f) (to_z-of_z t) refl
-
--- as many as its indices
-pub through_many : (r s : Run) → (through r s).many ≡ s.many
-through_many r s = go (ℕ_discrete s.many 0)
-  where
-    go : Dec (s.many ≡ 0) → (through r s).many ≡ s.many
-    go (yes e) = rw (eq-eqb s.many 0 e) (sym e)
-    go (no d) = rw (ne_eqb s.many 0 d) refl
 
 -- ---- one component
 module _ (labels : List ℕ) (runs : List Run) (g : ℕ) (kept : Run) where

@@ -13,8 +13,9 @@ ghost use Rattle.solver.specs.Steps.{remains_by};
 use runs::{Equation, Run};
 
 /// What an equation inside a component leaves of the component's family: the members at the indices of a run. None: all of it stays.
-// With p = first + step·k, and q likewise, the equation says coefficient·k = value. Both numbers are within the
-// 10,000,000,000,000,000 that `candidate` asks for.
+///
+/// With p = first + step·k, and q likewise, the equation says coefficient·k = value. Both numbers are within the
+/// 10,000,000,000,000,000 that `candidate` asks for.
 pub(crate) fn inside(e: Equation, p: Run, q: Run) -> Option<Run>
     requires combinable { Combinable e }
     requires left_family { FamilyRun p }

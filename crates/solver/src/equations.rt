@@ -1,4 +1,6 @@
 //! The equations, one after the other and in normal form: what each leaves of the families.
+//!
+//! What is asked of an equation's numbers and of a family's run stays in clauses, as in `cycle` and `parts`.
 
 ghost use Rattle.std.specs.Prelude.{◌≡◌, ◌≢◌};
 ghost use Rattle.runs.specs.Workings.{CarryLimits};

@@ -1,6 +1,7 @@
 //! An equation between two components: which members of the two families go together.
 //!
-//! What is asked of an equation's numbers and of a family's run stays in clauses, as in `cycle` and `parts`.
+//! What is asked of an equation's numbers and of a family's run stays in clauses, as in `cycle` and `parts`. `leads` is a side, left or
+//! right, and no step to be switched on.
 
 ghost use Rattle.std.specs.Prelude.{◌≡◌, ◌-ℤ◌, ◌*ℤ◌};
 ghost use Rattle.ints.specs.Within.{Within};
@@ -100,12 +101,13 @@ impl Indices {
         ensures { indices_by result ≡ directed leads (indices_by self) }
     {
         if self.leading(leads).step < 0 {
-            return Indices {
+            Indices {
                 left: parts::turned(self.left),
                 right: parts::turned(self.right),
-            };
+            }
+        } else {
+            self
         }
-        self
     }
 
     // The indices into the family of the new lowest variable.

@@ -2,6 +2,9 @@
 //!
 //! While equations are taken in, how many numbers a variable's run has stands at the lowest variable of its component alone, so that an
 //! equation which takes only the last members away writes one number and walks through no component.
+//!
+//! Components and runs stay two parameters: the runs lie in the caller's `State`, and a struct that holds them by reference would ask each
+//! method to say that it still holds the same ones.
 
 ghost use Rattle.std.specs.Prelude.{◌≡◌, ◌<◌, true};
 ghost use Rattle.lists.specs.Table.{Tabulates};
@@ -66,10 +69,10 @@ fn one(components: &Components, runs: &mut [Run; 256], g: u16, kept: Run)
 fn stay(kept: Run, many: u32) -> bool
     ensures { result ≡ true → Stays kept many }
 {
-    many == 0 || kept.many != 0 && kept.first == 0 && (many == 1 || kept.step == 1)
+    many == 0 || (kept.many != 0 && kept.first == 0 && (many == 1 || kept.step == 1))
 }
 
-// How many numbers each run has, written at every variable.
+// How many numbers each run has, from the lowest variable of its component to every other.
 pub(crate) fn fill(components: &Components, runs: &mut [Run; 256])
     ensures { Tabulates empty (gathered components.now.labels runs.old) components.now.variables runs.new }
 {
