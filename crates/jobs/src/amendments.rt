@@ -67,8 +67,8 @@ impl<'a> Amendments<'a> {
         Ok(Amendments { bytes, count })
     }
 
-    /// The first sheet with something in its zero field: reason 11.
-    pub fn check_zeros(self) -> Result<(), Reason>
+    // The first sheet with something in its zero field: reason 11.
+    pub(crate) fn check_zeros(self) -> Result<(), Reason>
         ensures { FirstRow AmendmentZero (λ t. zero_at self.entry.bytes.now t ≢ 0) self.entry.count result }
     {
         'rows: {
@@ -81,12 +81,12 @@ impl<'a> Amendments<'a> {
         }
     }
 
-    /// The first sheet whose number does not rise, that names no variable of the job, or that supersedes no earlier one for its variable
-    /// though it says so: reason 12.
-    pub fn check_references(self, shape: Shape) -> Result<(), Reason>
+    // The first sheet whose number does not rise, that names no variable of the job, or that supersedes no earlier one for its variable
+    // though it says so: reason 12.
+    pub(crate) fn check_references(self, shape: Shape) -> Result<(), Reason>
         ensures { FirstRow AmendmentReference (Misreferenced shape.variables (amendments_of self.entry.bytes.now)) self.entry.count result }
     {
-        let mut before: u32 = 0;
+        let mut before = 0;
         'rows: {
             for t in 0..self.count {
                 let a = Amendment::read(self.bytes, t);
@@ -134,8 +134,8 @@ impl<'a> Amendments<'a> {
         requires referenced { Referenced shape.variables (amendments_of self.bytes.now) k }
         ensures { PlaceOf (amendments_of self.entry.bytes.now) serial k result }
     {
-        let mut low: usize = 0;
-        let mut high: usize = k;
+        let mut low = 0;
+        let mut high = k;
         while low < high {
             let middle = low + (high - low) / 2;
             if Amendment::read(self.bytes, middle).serial < serial {
@@ -147,8 +147,8 @@ impl<'a> Amendments<'a> {
         low
     }
 
-    /// The first sheet in force after another in force for its variable: reason 13.
-    pub fn check_twice(self, shape: Shape) -> Result<(), Reason>
+    // The first sheet in force after another in force for its variable: reason 13.
+    pub(crate) fn check_twice(self, shape: Shape) -> Result<(), Reason>
         requires referenced { Referenced shape.variables (amendments_of self.bytes.now) self.count }
         ensures { FirstRow AmendmentTwice (Twice (amendments_of self.entry.bytes.now)) self.entry.count result }
     {
@@ -184,8 +184,8 @@ impl<'a> Amendments<'a> {
         superseded
     }
 
-    /// The first sheet whose bounds are out of range, in force or not: reason 5.
-    pub fn check_ranges(self) -> Result<(), Reason>
+    // The first sheet whose bounds are out of range, in force or not: reason 5.
+    pub(crate) fn check_ranges(self) -> Result<(), Reason>
         ensures { FirstRow AmendmentRange (λ t. Bounded (amendment_bounds (amendment (amendments_of self.entry.bytes.now) t)) → ⊥) self.entry.count result }
     {
         'rows: {
