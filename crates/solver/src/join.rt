@@ -1,7 +1,7 @@
 //! An equation between two components: which members of the two families go together.
 //!
-//! What is asked of an equation's numbers and of a family's run stays in clauses, as in `cycle` and `parts`. `leads` is a side, left or
-//! right, and no step to be switched on.
+//! What is asked of an equation's numbers and of a family's run stays in clauses, as in `cycle` and `parts`. `leads` says which of a
+//! pair is meant, and switches no step.
 
 ghost use Rattle.std.specs.Prelude.{◌≡◌, ◌-ℤ◌, ◌*ℤ◌};
 ghost use Rattle.ints.specs.Within.{Within};
