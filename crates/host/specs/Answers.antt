@@ -1,5 +1,7 @@
 -- Every answer as C is handed it, and what C hands over. A field that does not apply is 0.
 use Rattle.std.specs.Prelude.{◌≡◌, ℕ, ◌%◌, eqb, ℤ, pos}
+use Rattle.reasons.specs.declared.Reason.{Reason}
+use Rattle.reasons.specs.Numbers.{number_of, row_of}
 use Rattle.reasons.specs.Answer.{WorkingAnswer, gives, refused}
 use Rattle.runs.specs.declared.Run.{Run}
 use Rattle.runs.specs.declared.Equation.{Equation}
@@ -29,6 +31,10 @@ pub record PlansFor (c : Call) (r : FitOutcome) (x : Areas) : Type 0 where
   pub outcome : r ≡ outcome_for (verdict c)
   pub plans : Plans c (verdict c) x
 
+-- the numbers of a refusal, as C is handed them
+abbrev pub refused_for : Reason → FitChecked
+refused_for r = record { reason = number_of r; row = row_of r }
+
 -- the others have reason 0 where nothing is refused
 abbrev pub checked_for : Answer → FitChecked
 checked_for accepted = record { reason = 0; row = 0 }
@@ -41,6 +47,10 @@ quotient_for (refused reason row) = record { reason = reason; row = row; quotien
 abbrev pub working_for : WorkingAnswer Run → FitWorking
 working_for (gives r) = record { reason = 0; row = 0; run = record { first = r.first; step = r.step; many = r.many } }
 working_for (refused reason row) = record { reason = reason; row = row; run = record { first = pos 0; step = pos 0; many = 0 } }
+
+-- a run for C
+abbrev pub fit_run : Run → FitRun
+fit_run r = record { first = r.first; step = r.step; many = r.many }
 
 -- what C hands over
 abbrev pub run_for : FitRun → Run

@@ -1,23 +1,59 @@
 //! The structs that C is handed, made of what the planner and the workings answer; and theirs, made of what C hands over.
 
 ghost use Rattle.std.specs.Prelude.{◌≡◌};
-ghost use Rattle.ints.specs.Division.{division_answer_of};
-ghost use Rattle.runs.specs.Workings.{working_answer_of};
+ghost use Rattle.reasons.specs.Answer.{working_answer_of};
 ghost use Rattle.jobs.specs.Faults.{answer_of};
 ghost use Rattle.planner.specs.Outcome.{verdict_of};
-ghost use Rattle.host.specs.Answers.{lent_by, outcome_for, checked_for, quotient_for, run_for, working_for};
+ghost use Rattle.host.specs.Answers.{lent_by, outcome_for, checked_for, quotient_for, working_for};
 
 use crate::{FitChecked, FitOutcome, FitQuotient, FitRun, FitWorking};
-use ints::Division;
-use jobs::Checked;
 use planner::{Lent, Outcome};
-use runs::{Run, Working};
+use reasons::Reason;
+use runs::Run;
 
 // Which areas are lent, by the bits.
 pub(crate) fn lent_by(bits: u32) -> Lent
     ensures { result ≡ lent_by bits }
 {
     Lent { map: bits % 2 == 1 }
+}
+
+// A run of C's.
+impl From<FitRun> for Run {
+    ghost use Rattle.host.specs.Answers.{run_for};
+
+    ghost from_gives = { λ run result. result ≡ run_for run };
+
+    fn from(run: FitRun) -> Run {
+        let FitRun { first, step, many } = run;
+        Run { first, step, many }
+    }
+}
+
+// And one for C.
+impl From<Run> for FitRun {
+    ghost use Rattle.host.specs.Answers.{fit_run};
+
+    ghost from_gives = { λ run result. result ≡ fit_run run };
+
+    fn from(run: Run) -> FitRun {
+        let Run { first, step, many } = run;
+        FitRun { first, step, many }
+    }
+}
+
+// The numbers of a refusal.
+impl From<Reason> for FitChecked {
+    ghost use Rattle.host.specs.Answers.{refused_for};
+
+    ghost from_gives = { λ reason result. result ≡ refused_for reason };
+
+    fn from(reason: Reason) -> FitChecked {
+        FitChecked {
+            reason: u32::from(reason.number()),
+            row: u32::from(reason.row()),
+        }
+    }
 }
 
 pub(crate) fn outcome_for(outcome: Outcome) -> FitOutcome
@@ -33,82 +69,50 @@ pub(crate) fn outcome_for(outcome: Outcome) -> FitOutcome
         },
         Outcome::NoFit(count) => FitOutcome {
             kind: 2,
-            count: count as u32,
+            count: u32::from(count),
             reason: 0,
             row: 0,
             worth: 0,
         },
-        Outcome::Refused(reason) => FitOutcome {
-            kind: 3,
-            count: 0,
-            reason: reason.number() as u32,
-            row: reason.row() as u32,
-            worth: 0,
-        },
+        Outcome::Refused(reason) => {
+            let FitChecked { reason, row } = FitChecked::from(reason);
+            FitOutcome {
+                kind: 3,
+                count: 0,
+                reason,
+                row,
+                worth: 0,
+            }
+        }
     }
 }
 
-pub(crate) fn checked_for(checked: Checked) -> FitChecked
-    ensures { result ≡ checked_for (answer_of checked) }
+// Why an answer is refused: reason 0 where it is not.
+pub(crate) fn checked_for<T>(answer: &Result<T, Reason>) -> FitChecked
+    ensures { result ≡ checked_for (answer_of answer.now) }
 {
-    match checked {
-        Checked::Accepted => FitChecked { reason: 0, row: 0 },
-        Checked::Refused(reason) => FitChecked {
-            reason: reason.number() as u32,
-            row: reason.row() as u32,
-        },
+    match answer {
+        Ok(_) => FitChecked { reason: 0, row: 0 },
+        Err(reason) => FitChecked::from(*reason),
     }
 }
 
-pub(crate) fn quotient_for(division: Division) -> FitQuotient
-    ensures { result ≡ quotient_for (division_answer_of division) }
+pub(crate) fn quotient_for(division: Result<i64, Reason>) -> FitQuotient
+    ensures { result ≡ quotient_for (working_answer_of division) }
 {
-    match division {
-        Division::Quotient(q) => FitQuotient {
-            reason: 0,
-            row: 0,
-            quotient: q,
-        },
-        Division::Refused(reason) => FitQuotient {
-            reason: reason.number() as u32,
-            row: reason.row() as u32,
-            quotient: 0,
-        },
+    let FitChecked { reason, row } = checked_for(&division);
+    let quotient = division.unwrap_or(0);
+    FitQuotient {
+        reason,
+        row,
+        quotient,
     }
 }
 
-// A run of C's.
-pub(crate) fn run_for(run: FitRun) -> Run
-    ensures { result ≡ run_for run }
-{
-    Run {
-        first: run.first,
-        step: run.step,
-        many: run.many,
-    }
-}
-
-pub(crate) fn working_for(working: Working) -> FitWorking
+pub(crate) fn working_for(working: Result<Run, Reason>) -> FitWorking
     ensures { result ≡ working_for (working_answer_of working) }
 {
-    match working {
-        Working::Gives(run) => FitWorking {
-            reason: 0,
-            row: 0,
-            run: FitRun {
-                first: run.first,
-                step: run.step,
-                many: run.many,
-            },
-        },
-        Working::Refused(reason) => FitWorking {
-            reason: reason.number() as u32,
-            row: reason.row() as u32,
-            run: FitRun {
-                first: 0,
-                step: 0,
-                many: 0,
-            },
-        },
-    }
+    let FitChecked { reason, row } = checked_for(&working);
+    let run = FitRun::from(working.unwrap_or(Run::empty()));
+    FitWorking { reason, row, run }
 }

@@ -89,17 +89,19 @@ pub fn fit_plan_v2(
 }
 
 /// The job check: as the planner through reason 7.
+#[tactic(auto, unfolding(jobs::specs::Faults::checked))]
 pub fn fit_check(job: &[u8]) -> FitChecked
     ensures { result ≡ checked_for (checked job.now []) }
 {
-    answers::checked_for(jobs::check(job))
+    answers::checked_for(&jobs::check(job))
 }
 
 /// The check of a job and its amendments: as the planner through the amendments' reasons, 11, 12, 13 and 5.
+#[tactic(auto, unfolding(jobs::specs::Faults::checked))]
 pub fn fit_check_amendments(job: &[u8], amendments: &[u8]) -> FitChecked
     ensures { result ≡ checked_for (checked job.now amendments.now) }
 {
-    answers::checked_for(jobs::check_amended(job, amendments))
+    answers::checked_for(&jobs::check_amended(job, amendments))
 }
 
 /// n / d rounded towards the lower whole number.
@@ -113,13 +115,12 @@ pub fn fit_divide(n: i64, d: i64) -> FitQuotient
 pub fn fit_meet(a: FitRun, b: FitRun) -> FitWorking
     ensures { result ≡ working_for (meeting (run_for a) (run_for b)) }
 {
-    answers::working_for(runs::meeting(answers::run_for(a), answers::run_for(b)))
+    answers::working_for(runs::meeting(a.into(), b.into()))
 }
 
 /// The run of all p that have a partner q in the run, with a·p + b·q = c.
 pub fn fit_carry(a: i64, b: i64, c: i64, q: FitRun) -> FitWorking
     ensures { result ≡ working_for (carrying (equation_for a b c) (run_for q)) }
 {
-    let e = Equation { a, b, c };
-    answers::working_for(runs::carrying(e, answers::run_for(q)))
+    answers::working_for(runs::carrying(Equation { a, b, c }, q.into()))
 }
