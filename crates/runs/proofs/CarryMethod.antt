@@ -257,7 +257,7 @@ module _ {e : Equation} {q : Run} (k : Carriable e q) where
   carried (Some j) E = every E
 
   -- and the places are within reach of the congruence
-  pub places_reach : InReach (places_with_partner e q)
+  pub places_reach : InReach (e.b *ℤ stride q) (partner_value e q.first) e.a
   places_reach = record {
     factor = lin (e.b ∷ stride q ∷ []) (Within-mul k.limits.right (stride_small k.form k.some)) (search facts depth 20) (omega arith);
     value = lin (partner_value e q.first ∷ []) (value_Within k.limits (first-Within k.form k.some)) (search facts depth 20) (omega arith);

@@ -99,17 +99,17 @@ limits {n} {d} h above most = record {
   not_zero = lin (d ∷ []) above (search facts depth 20) (omega arith);
 }
 
-module _ {s : Congruence} {g x : ℤ} (reach : InReach s) (f : IsFactor s.u s.d g x) where
+module _ {u v d g x : ℤ} (reach : InReach u v d) (f : IsFactor u d g x) where
   by_g : {n : ℤ} → Within limit n → DivisionLimits n g
   by_g h =
       let (above, most) = gcd_range f reach.above in
-      limits h above (le_trans g s.d (pos 2000000000) most reach.modulus)
+      limits h above (le_trans g d (pos 2000000000) most reach.modulus)
 
-  pub limits_value : DivisionLimits s.v g
-  limits_value = by_g (lin (s.v ∷ []) reach.value (search facts depth 20) (omega arith))
+  pub limits_value : DivisionLimits v g
+  limits_value = by_g (lin (v ∷ []) reach.value (search facts depth 20) (omega arith))
 
-  pub limits_modulus : DivisionLimits s.d g
-  limits_modulus = by_g (lin (s.d ∷ []) (reach.above & reach.modulus) (search facts depth 20) (omega arith))
+  pub limits_modulus : DivisionLimits d g
+  limits_modulus = by_g (lin (d ∷ []) (reach.above & reach.modulus) (search facts depth 20) (omega arith))
 
 -- two congruences with the same numbers are one
 pub same_congruence : {s t : Congruence} → s.u ≡ t.u → s.v ≡ t.v → s.d ≡ t.d → s ≡ t

@@ -172,7 +172,7 @@ module _ {a b : Run} (o : OneForm a) (o' : OneForm b) (h : 1 ≤ a.many) (h' : 1
   met (Some i) e = some i e
 
   -- and the places are within reach of the congruence
-  pub places_in_reach : InReach (places_in a b)
+  pub places_in_reach : InReach (stride a) (b.first -ℤ a.first) (stride b)
   places_in_reach = record {
     factor = lin (stride a ∷ []) (stride_above o h & stride_within o h) (search facts depth 20) (omega arith);
     value = lin (a.first ∷ b.first ∷ []) (first-Within o h & first-Within o' h') (search facts depth 20) (omega arith);

@@ -47,7 +47,7 @@ factors_are (negsuc a) b w above most =
     turned (subst (λ n. IsFactor n (pos b) (extended b (suc a) b (pos 1) (pos 0)).gcd (extended b (suc a) b (pos 1) (pos 0)).cofactor) (sym (opposite (negsuc a))) f)
 
 -- ---- u·i ≡ v (mod d)
-solved_is : (s : Congruence) → InReach s → Solves s (solved s)
+solved_is : (s : Congruence) → InReach s.u s.v s.d → Solves s (solved s)
 unfolding solved
 solved_is s h = go (lt_z (pos 0) (floor_mod s.v f.gcd)) refl
   where

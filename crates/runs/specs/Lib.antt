@@ -10,6 +10,8 @@ pub mod Workings
 pub mod Groupings
 -- the laws of meeting, as statements
 pub mod MeetLaws
+-- how large the numbers of a congruence may be
+pub mod Reach
 -- the method: residue classes, intervals, a congruence (what inner functions promise)
 pub mod Method
 -- meeting and carrying as functions that compute (nothing here has to be believed)

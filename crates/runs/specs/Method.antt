@@ -12,15 +12,19 @@ use Rattle.runs.specs.Run.{Run, OneForm, empty, full, bound}
 use Rattle.runs.specs.Workings.{Equation, CarryLimits}
 pub use Rattle.runs.specs.declared.class.Class.{Class}
 pub use Rattle.runs.specs.declared.class.Interval.{Interval}
-pub use Rattle.runs.specs.declared.congruence.Congruence.{Congruence}
+use Rattle.runs.specs.declared.congruence.Congruence as code
+pub use Rattle.runs.specs.Reach.{InReach}
 use Rattle.std.specs.Prelude.{Option, Some, None}
 
 -- ---- u·i ≡ v (mod d)
-pub record InReach (s : Congruence) : Type 0 where
-  pub factor : Within 1000000000000000000 s.u
-  pub value : Within 1000000000000000000 s.v
-  pub above : pos 0 <ℤ s.d
-  pub modulus : s.d ≤ℤ pos 2000000000
+pub record Congruence : Type 0 where
+  pub u : ℤ
+  pub v : ℤ
+  pub d : ℤ
+
+-- that of the struct, which is within reach
+abbrev pub numbers : code.Congruence → Congruence
+numbers s = record { u = s.u; v = s.v; d = s.d }
 
 -- every solution: those of a class, whose first number is the least that is not negative
 pub record AllSolutions (s : Congruence) (c : Class) : Type 0 where

@@ -1,9 +1,6 @@
 //! The congruence u·i ≡ v (mod d).
 
-ghost use Rattle.std.specs.Prelude.{◌≡◌, pos};
-ghost use Rattle.ints.specs.Divides.{◌∣ℤ◌};
-ghost use Rattle.euclid.specs.Factor.{IsFactor};
-ghost use Rattle.runs.specs.Method.{InReach, AllSolutions, Solves};
+ghost use Rattle.runs.specs.Reach.{InReach};
 
 use crate::class::Class;
 use euclid::Factor;
@@ -14,14 +11,19 @@ pub struct Congruence {
     pub u: i64,
     pub v: i64,
     pub d: i64,
+    ghost in_reach: { InReach u v d },
 }
 
 impl Congruence {
+    ghost use Rattle.std.specs.Prelude.{◌≡◌, pos};
+    ghost use Rattle.ints.specs.Divides.{◌∣ℤ◌};
+    ghost use Rattle.euclid.specs.Factor.{IsFactor};
+    ghost use Rattle.runs.specs.Method.{numbers, AllSolutions, Solves};
+
     // Its solutions: none, or the numbers of one class, whose first is the least that is not negative. A run that a variable begins
     // with has stride 1, and so have most that are met.
     pub(crate) fn solve(self) -> Option<Class>
-        requires { InReach self }
-        ensures { Solves self result }
+        ensures { Solves (numbers self) result }
     {
         if self.u == 1 {
             Some(self.class_of_value())
@@ -32,9 +34,8 @@ impl Congruence {
 
     // With u = 1 the solutions are the numbers that are v modulo d.
     fn class_of_value(self) -> Class
-        requires in_reach { InReach self }
-        requires factor_is_1 { self.u ≡ pos 1 }
-        ensures { AllSolutions self result }
+        requires { self.u ≡ pos 1 }
+        ensures { AllSolutions (numbers self) result }
     {
         Class {
             first: ints::remainder(self.v, self.d),
@@ -43,8 +44,7 @@ impl Congruence {
     }
 
     fn by_factor(self) -> Option<Class>
-        requires { InReach self }
-        ensures { Solves self result }
+        ensures { Solves (numbers self) result }
     {
         let f = Factor::of(self.u, self.d);
         if 0 < ints::remainder(self.v, f.gcd) {
@@ -57,10 +57,9 @@ impl Congruence {
     // The greatest common divisor divides v, and v divided by it, times the cofactor, is a solution. The factors are
     // reduced first, so that the product is at most 4,000,000,000,000,000,000.
     fn class_by(self, f: Factor) -> Class
-        requires in_reach { InReach self }
         requires factor { IsFactor self.u self.d f.gcd f.cofactor }
         requires gcd { f.gcd ∣ℤ self.v }
-        ensures { AllSolutions self result }
+        ensures { AllSolutions (numbers self) result }
     {
         let step = ints::quotient(self.d, f.gcd);
         let x = ints::remainder(f.cofactor, step);

@@ -1,11 +1,11 @@
 //! The methods of `Equation`: its limits, and the parts of carrying, most of them for an a above 0.
 
-ghost use Rattle.std.specs.Prelude.{◌≡◌, Some, ◌≤◌, ◌-ℤ◌, ◌*ℤ◌, ◌≤ℤ◌};
+ghost use Rattle.std.specs.Prelude.{◌≡◌, Some, ◌-ℤ◌, ◌*ℤ◌, ◌≤ℤ◌};
 ghost use Rattle.ints.specs.Within.{Within};
 ghost use Rattle.ints.specs.Division.{limit};
-ghost use Rattle.runs.specs.Run.{OneForm, bound};
+ghost use Rattle.runs.specs.Run.{bound};
 ghost use Rattle.runs.specs.Workings.{CarryLimits, carry_limits};
-ghost use Rattle.runs.specs.Method.{upright, Carriable, partner_value, places_with_partner, AllSolutions, last_place, partners, rising, step_of, carry_by};
+ghost use Rattle.runs.specs.Method.{numbers, upright, Carriable, partner_value, places_with_partner, AllSolutions, last_place, partners, rising, step_of, carry_by};
 
 use crate::class::Class;
 use crate::congruence::Congruence;
@@ -39,10 +39,8 @@ impl Equation {
 
     // The places in a run of the numbers with a partner.
     pub(crate) fn places(self, q: Run) -> Congruence
-        requires carry_limits { CarryLimits self }
-        requires one_form { OneForm q }
-        requires not_empty { 1 ≤ q.many }
-        ensures { result ≡ places_with_partner self q }
+        requires { Carriable self q }
+        ensures { numbers result ≡ places_with_partner self q }
     {
         Congruence {
             u: self.b * q.stride(),

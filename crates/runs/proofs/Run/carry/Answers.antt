@@ -8,7 +8,7 @@ use Rattle.runs.specs.Search.{carry}
 use Rattle.runs.specs.Workings.{Equation}
 use Rattle.runs.specs.Method.{Class, Carriable, Solves, places_with_partner, carry_by}
 use Rattle.runs.proofs.CarryMembers.{IsCarry, is_carry, empty_carried}
-use Rattle.runs.proofs.CarryMethod.{carried, places_reach, upright-Carriable, upright-IsCarry}
+use Rattle.runs.proofs.CarryMethod.{carried, upright-Carriable, upright-IsCarry}
 use Rattle.runs.proofs.Run.carry.Goals.{After-upright-up, After-solve}
 use Rattle.runs.proofs.Run.carry.Goals as goal
 
@@ -36,9 +36,6 @@ module _ (c : After-solve) where
 
 pub returns-then-self-eq0 : goal.returns-then-self-eq0
 returns-then-self-eq0 c = c.empty.ensures ∙ is_carry (empty_carried c.args.e.a c.args.e.b c.args.e.c c.if-self-eq0.true)
-
-pub solve-requires : goal.solve-requires
-solve-requires c = rw c.places.ensures (places_reach (carriable (goal.at.solve-requires c).After-upright-up))
 
 pub carried-requires-clause-carriable : goal.carried-requires-clause-carriable
 carried-requires-clause-carriable c = carriable (goal.at.carried-requires-clause-carriable c).After-upright-up

@@ -7,7 +7,7 @@ use Rattle.std.specs.Prelude.{Option, Some, None}
 use Rattle.runs.specs.Run.{Run}
 use Rattle.runs.specs.Search.{meet}
 use Rattle.runs.specs.Method.{Class, Solves, common, clip, places_in, meet_by}
-use Rattle.runs.proofs.MeetMethod.{is_meet, met, meet_fair, places_in_reach, meet_places, empty_left, empty_right}
+use Rattle.runs.proofs.MeetMethod.{is_meet, met, meet_fair, meet_places, empty_left, empty_right}
 use Rattle.runs.proofs.Run.meet.Goals.{Else-other-eq0, After-solve, In-Some, then-self-eq0-via-then-self-eq0, then-self-eq0-via-else-self-eq0+then-other-eq0}
 use Rattle.runs.proofs.Run.meet.Goals as goal
 
@@ -38,9 +38,6 @@ module _ (c : After-solve) where
 
 pub returns-then-self-eq0 : goal.returns-then-self-eq0
 returns-then-self-eq0 c = c.empty.ensures ∙ is_meet c.requires.one_form (elim c.then-self-eq0.branch [ then-self-eq0-via-then-self-eq0 w ↦ empty_left c.args.other w.if-self-eq0.true | then-self-eq0-via-else-self-eq0+then-other-eq0 w ↦ empty_right c.args.self w.if-other-eq0.true ])
-
-pub solve-requires : goal.solve-requires
-solve-requires c = let p = (goal.at.solve-requires c).Else-other-eq0 in rw c.places_in.ensures (places_in_reach c.requires.one_form c.requires.other_one_form (some p) (some' p))
 
 pub numbers_at-requires-clause-places : goal.numbers_at-requires-clause-places
 numbers_at-requires-clause-places c = let s = (goal.at.numbers_at-requires-clause-places c).After-solve in

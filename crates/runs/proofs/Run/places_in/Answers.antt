@@ -9,6 +9,7 @@ use Rattle.ints.proofs.Signed.{held}
 use Rattle.runs.specs.Run.{Run, OneForm}
 use Rattle.runs.proofs.ClassOfRun.{first-Within}
 use Rattle.runs.proofs.CongruenceSolutions.{same_congruence}
+use Rattle.runs.proofs.MeetMethod.{places_in_reach}
 use Rattle.runs.proofs.Run.places_in.Goals as goal
 
 module _ (a b : Run) (p : OneForm a × ((1 ≤ a.many) × (OneForm b × (1 ≤ b.many)))) where
@@ -29,6 +30,17 @@ module _ (a b : Run) (p : OneForm a × ((1 ≤ a.many) × (OneForm b × (1 ≤ b
 
 pub overflow_sub-result : goal.overflow_sub-result
 overflow_sub-result c = apart_asked c.args.self c.args.other (c.requires.one_form, (c.requires.not_empty, (c.requires.other_one_form, c.requires.other_not_empty)))
+
+pub invariant_of-result : goal.invariant_of-result
+invariant_of-result c = let fits_one : SFits w64 c.stride.result = record { sfits = c.stride.type_inv } in
+    let fits-two : SFits w64 c.stride-2.result = record { sfits = c.stride-2.type_inv } in
+    rw (
+      to_z-of_z fits_one,
+      c.stride.ensures,
+      apart_is c.args.self c.args.other (c.requires.one_form, (c.requires.not_empty, (c.requires.other_one_form, c.requires.other_not_empty))),
+      to_z-of_z fits-two,
+      c.stride-2.ensures,
+    ) record { in_reach = places_in_reach c.requires.one_form c.requires.other_one_form c.requires.not_empty c.requires.other_not_empty }
 
 pub returns : goal.returns
 returns c = let fits_one : SFits w64 c.stride.result = record { sfits = c.stride.type_inv } in

@@ -29,13 +29,13 @@ module _ (c : After-of-f) where
 
   factor : IsFactor u d g c.of-f.result.cofactor
   factor =
-      let reach = c.requires in
+      let reach = c.args.self.in_reach in
       let fits_u : SFits w64 u = lin (u ∷ []) reach.factor (search signed depth 20) (omega arith) in
       let fits-d : SFits w64 d = lin (d ∷ []) (reach.above & reach.modulus) (search signed depth 20) (omega arith) in
       rw (to_z-of_z fits_u, to_z-of_z fits-d) at c.of-f.ensures.factor
 
   limits_v : DivisionLimits v g
-  limits_v = limits_value c.requires factor
+  limits_v = limits_value c.args.self.in_reach factor
 
 -- what the test tells of the remainder
 module _ (c : After-remainder) where
@@ -62,8 +62,8 @@ remainder-requires c = asked (limits_v (goal.at.remainder-requires c).After-of-f
 
 pub class_by-requires-clause-gcd : goal.class_by-requires-clause-gcd
 class_by-requires-clause-gcd c = let o = (goal.at.class_by-requires-clause-gcd c).After-of-f in
-    no_rest (factor o) c.requires.above (v o) (none (goal.at.class_by-requires-clause-gcd c).After-remainder c.if-remainder-gt0.false)
+    no_rest (factor o) c.args.self.in_reach.above (v o) (none (goal.at.class_by-requires-clause-gcd c).After-remainder c.if-remainder-gt0.false)
 
 pub returns-then-remainder-gt0 : goal.returns-then-remainder-gt0
 returns-then-remainder-gt0 c = let o = (goal.at.returns-then-remainder-gt0 c).After-of-f in
-    nothing (factor o) c.requires.above (v o) (some (goal.at.returns-then-remainder-gt0 c).After-remainder c.if-remainder-gt0.true)
+    nothing (factor o) c.args.self.in_reach.above (v o) (some (goal.at.returns-then-remainder-gt0 c).After-remainder c.if-remainder-gt0.true)

@@ -35,16 +35,16 @@ module _ (s : Start) where
   factor = s.requires.factor
 
   above : pos 0 <ℤ d
-  above = s.requires.in_reach.above
+  above = s.args.self.in_reach.above
 
   most : d ≤ℤ pos 2000000000
-  most = s.requires.in_reach.modulus
+  most = s.args.self.in_reach.modulus
 
   limits_d : DivisionLimits d g
-  limits_d = limits_modulus s.requires.in_reach factor
+  limits_d = limits_modulus s.args.self.in_reach factor
 
   limits_v : DivisionLimits v g
-  limits_v = limits_value s.requires.in_reach factor
+  limits_v = limits_value s.args.self.in_reach factor
 
 -- ---- the step
 module _ (c : After-quotient-step) where

@@ -11,11 +11,11 @@ use Rattle.ints.proofs.{ℤ, pos, neg_ℤ, ◌*ℤ◌, [], ◌∷◌, arith, lin
 use Rattle.ints.proofs.Floor.{mod_range}
 use Rattle.ints.proofs.Divides.{divides-add, divides-mul, divides_by, mod-Congruent}
 use Rattle.ints.proofs.Answers.{answered}
-use Rattle.runs.specs.Method.{Congruence, InReach, AllSolutions}
+use Rattle.runs.specs.Method.{Congruence, InReach, AllSolutions, numbers}
 use Rattle.runs.proofs.CongruenceSolutions.{limits}
 use Rattle.runs.proofs.congruence.Congruence.class_of_value.Goals as goal
 
-module _ (s : Congruence) (reach : InReach s) (unit : s.u ≡ pos 1) where
+module _ (s : Congruence) (reach : InReach s.u s.v s.d) (unit : s.u ≡ pos 1) where
   limits_v : DivisionLimits s.v s.d
   limits_v = limits (lin (s.v ∷ []) reach.value (search facts depth 20) (omega arith)) reach.above reach.modulus
 
@@ -32,7 +32,8 @@ module _ (s : Congruence) (reach : InReach s) (unit : s.u ≡ pos 1) where
   every = record { low = (mod_range s.v s.d reach.above).0; high = (mod_range s.v s.d reach.above).1; all = same }
 
 pub returns : goal.returns
-returns c = let x = c.args.self in
+returns c = let x = numbers c.args.self in
+    let reach = c.args.self.in_reach in
     let r = c.remainder.result in
-    let fits-d : SFits w64 x.d = lin (x.d ∷ []) (c.requires.in_reach.above & c.requires.in_reach.modulus) (search signed depth 20) (omega arith) in
-    rw (to_z-of_z {w = w64} record { sfits = c.remainder.type_inv }, answered (limits_v x c.requires.in_reach c.requires.factor_is_1) floor_mod c.remainder.ensures, to_z-of_z fits-d) (every x c.requires.in_reach c.requires.factor_is_1)
+    let fits-d : SFits w64 x.d = lin (x.d ∷ []) (reach.above & reach.modulus) (search signed depth 20) (omega arith) in
+    rw (to_z-of_z {w = w64} record { sfits = c.remainder.type_inv }, answered (limits_v x reach c.requires) floor_mod c.remainder.ensures, to_z-of_z fits-d) (every x reach c.requires)
