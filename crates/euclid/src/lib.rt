@@ -72,6 +72,7 @@ impl Factor {
         let mut s0: i64 = 1;
         let mut s1: i64 = 0;
         let mut made: u32 = 0;
+        // A loop, since nothing is counted here: the remainders fall until one is 0 or 1.
         'turns: loop {
             let q = r0 / r1;
             let r2 = r0 % r1;

@@ -23,6 +23,8 @@ pub fn divide(n: i64, d: i64) -> Result<i64, Reason>
     }
 }
 
+// The three below ask the same of two numbers: a struct of n and d with that fact would be no shorter than the clause.
+
 /// The quotient alone, for callers that have proved their arguments to be within the limits. A divisor of 1 is frequent.
 pub fn quotient(n: i64, d: i64) -> i64
     requires { DivisionLimits n d }
@@ -62,7 +64,8 @@ pub fn is_within(most: u64, x: i64) -> bool
     x.unsigned_abs() <= most
 }
 
-// `/` rounds towards zero: where the remainder and the divisor have opposite signs, the floor is one less.
+// `/` rounds towards zero: where the remainder and the divisor have opposite signs, the floor is one less. Document 01 names
+// this form; `div_euclid` rounds otherwise for a negative divisor.
 fn floor_div(n: i64, d: i64) -> i64
     requires within { Within limit n }
     requires d_nonzero { d ≢ pos 0 }

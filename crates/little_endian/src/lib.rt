@@ -5,6 +5,9 @@ ghost use Rattle.std.specs.Prelude.{◌≡◌, ◌+◌, ◌≤◌, length};
 ghost use Rattle.little_endian.specs.LittleEndian.{u16, u32, i32, i64};
 ghost use Rattle.little_endian.specs.Over.{over};
 
+// Four readers, since the width is the number's type: a trait for the four would be longer than they are.
+
+/// The number from 0 to 65,535 in the two bytes of s at a place. Both lie within s.
 #[tactic(auto, unfolding(crate::specs::LittleEndian::unsigned))]
 pub fn u16_at(s: &[u8], at: usize) -> u16
     requires { at + 2 ≤ length s.now }
@@ -13,6 +16,7 @@ pub fn u16_at(s: &[u8], at: usize) -> u16
     u16::from_le_bytes([s[at], s[at + 1]])
 }
 
+/// The number from 0 to 4,294,967,295 in the four bytes of s at a place. All four lie within s.
 #[tactic(auto, unfolding(crate::specs::LittleEndian::unsigned))]
 pub fn u32_at(s: &[u8], at: usize) -> u32
     requires { at + 4 ≤ length s.now }
@@ -21,6 +25,7 @@ pub fn u32_at(s: &[u8], at: usize) -> u32
     u32::from_le_bytes([s[at], s[at + 1], s[at + 2], s[at + 3]])
 }
 
+/// The number of either sign in the four bytes of s at a place, as 64 bits. All four lie within s.
 #[tactic(auto, unfolding(crate::specs::LittleEndian::unsigned))]
 pub fn i32_at(s: &[u8], at: usize) -> i64
     requires { at + 4 ≤ length s.now }
@@ -29,6 +34,7 @@ pub fn i32_at(s: &[u8], at: usize) -> i64
     i64::from(i32::from_le_bytes([s[at], s[at + 1], s[at + 2], s[at + 3]]))
 }
 
+/// The number of either sign in the eight bytes of s at a place. All eight lie within s.
 #[tactic(auto, unfolding(crate::specs::LittleEndian::unsigned))]
 pub fn i64_at(s: &[u8], at: usize) -> i64
     requires { at + 8 ≤ length s.now }

@@ -11,6 +11,8 @@ use crate::class::Class;
 use crate::congruence::Congruence;
 use crate::{Equation, Run};
 
+// The limits are a clause here and no fact of the type: `carrying` takes any equation and refuses those past them, and a second
+// type for the same three numbers would be no plainer.
 impl Equation {
     /// Are a, b and c within their limits?
     pub fn in_limits(self) -> bool
