@@ -1,122 +1,100 @@
 //! Standard input for the test programs: text, and the whole numbers that stand in it.
 #![tactic(auto)]
 
-ghost use Rattle.std.specs.Prelude.{◌≢◌, IfErr};
-ghost use Rattle.std.specs.Io.{ReadsAtMost};
+ghost use Rattle.std.specs.Prelude.{◌≢◌, ◌≤◌, IfErr, IfOk, vec_len};
 ghost use Rattle.std.specs.IoError.{error_kind};
 
+use arrayvec::ArrayVec;
+use std::alloc::Global;
 use std::io;
 use std::io::{ErrorKind, Read};
 
-pub type Text = [u8; 16384];
-
-/// Reads the text, as far as there is room. What is given is its length. It fails where a read of standard input does, and after 2^64
-/// tries, as std's readers do, with `TimedOut`; what the text has then is not told.
-pub fn read(rt: &impl Input, text: &mut Text) -> io::Result<usize>
-    ensures prefix { ReadsAtMost result text.new }
+/// Standard input to its end, or its first 16,384 bytes. It fails where a read does or memory runs out; a read that a signal interrupts is
+/// tried again.
+pub fn read(rt: &impl Input, alloc: Global) -> io::Result<Vec<u8>>
+    ensures limit { IfOk result (λ text. vec_len text ≤ 16384) }
     ensures retried { IfErr result (λ e. error_kind e ≢ ErrorKind.Interrupted) }
 {
-    let mut reader = rt.reader();
-    read_full(&mut reader, text)
+    let mut text = Vec::new(alloc);
+    rt.reader().take(16384).read_to_end(&mut text)?;
+    // It has no more, as `take` gives no more; the contract of `read_to_end` does not say so.
+    text.truncate(16384);
+    Ok(text)
 }
 
-// Reads until there is no room left or the input ends. A read that a signal interrupts is tried again.
-fn read_full(reader: &mut impl Read, text: &mut [u8]) -> io::Result<usize>
-    ensures prefix { ReadsAtMost result text.new }
-    ensures retried { IfErr result (λ e. error_kind e ≢ ErrorKind.Interrupted) }
-{
-    let mut done = 0;
-    for _ in 0..u64::MAX {
-        if done >= text.len() {
-            return Ok(done);
-        }
-        match reader.read(&mut text[done..]) {
-            Ok(0) => return Ok(done),
-            Ok(n) => done += n,
-            Err(e) => {
-                if e.kind() != ErrorKind::Interrupted {
-                    return Err(e);
-                }
-            }
-        }
-    }
-    // As std's readers give up; so many reads take longer than any machine lives.
-    Err(io::Error::from(ErrorKind::TimedOut))
-}
-
-/// The numbers that are read so far, in two's complement, and the one that is open. A minus sign stands just before its number.
-#[derive(Clone, Copy)]
+/// The whole numbers of a text, as far as it is read, and the one that is open. A minus sign stands just before its number. Past the 64th
+/// they are left out.
+#[derive(Drop)]
 pub struct Numbers {
-    at: [u64; 64],
-    many: usize,
-    open: bool,
-    negative: bool,
-    size: u64,
-}
-
-pub fn none() -> Numbers {
-    Numbers {
-        at: [0; 64],
-        many: 0,
-        open: false,
-        negative: false,
-        size: 0,
-    }
+    closed: ArrayVec<i64, 64>,
+    // What the digits say that are read so far.
+    open: Option<u64>,
+    is_negative: bool,
 }
 
 impl Numbers {
-    /// After one byte more. Numbers have at most 19 digits.
-    pub fn next(self, x: u8) -> Numbers {
-        if b'0' <= x {
-            if x <= b'9' {
-                let mut r = self;
-                r.open = true;
-                r.size = self.size % 1000000000000000000 * 10 + (x - b'0') as u64;
-                return r;
-            }
+    /// Those of no text.
+    pub fn new() -> Numbers {
+        Numbers {
+            closed: ArrayVec::new(),
+            open: None,
+            is_negative: false,
         }
-        let mut r = self.closed();
-        r.negative = x == b'-';
-        r
     }
 
-    // With the open number among the others.
-    fn closed(self) -> Numbers {
-        if !self.open {
-            return self;
+    /// Those of a whole text, whose end closes the last.
+    pub fn of(text: &[u8]) -> Numbers {
+        let mut numbers = Numbers::new();
+        for x in text {
+            numbers.read(*x);
         }
-        self.with(if self.negative {
-            std::num::wrapping_sub_u64(0, self.size)
+        numbers.close();
+        numbers
+    }
+
+    /// Reads one byte more. Of a longer number the last 19 digits count, in two's complement.
+    pub fn read(&mut self, x: u8) {
+        if x.is_ascii_digit() {
+            let size = self.open.unwrap_or(0) % 1000000000000000000;
+            self.open = Some(10 * size + u64::from(x - b'0'));
         } else {
-            self.size
-        })
+            self.close();
+            self.is_negative = x == b'-';
+        }
     }
 
-    /// With one number more, in the place of the open one; past the last place it is left out.
-    pub fn with(self, x: u64) -> Numbers {
-        let mut r = self;
-        let i = self.many;
-        if i < 64 {
-            r.at[i] = x;
-            r.many = i + 1;
+    // Puts the open number among the others.
+    fn close(&mut self) {
+        if let Some(size) = self.open {
+            let x = size.cast_signed();
+            self.push(if self.is_negative {
+                x.wrapping_neg()
+            } else {
+                x
+            });
         }
-        r.open = false;
-        r.negative = false;
-        r.size = 0;
-        r
+    }
+
+    /// Puts one number more, in the place of the open one.
+    pub fn push(&mut self, x: i64) {
+        // A full list stays as it is.
+        let _ = self.closed.try_push(x);
+        self.open = None;
+        self.is_negative = false;
     }
 
     /// Is a number open?
-    pub fn is_open(self) -> bool {
-        self.open
+    pub fn is_open(&self) -> bool {
+        self.open.is_some()
     }
 
-    /// How many there are, and number i, or 0.
-    pub fn count(self) -> usize {
-        self.many
+    /// How many there are, without the open one.
+    pub fn len(&self) -> usize {
+        self.closed.len()
     }
 
-    pub fn get(self, i: usize) -> u64 {
-        if i < 64 { self.at[i] } else { 0 }
+    /// Number i, or 0 where there is none.
+    pub fn get(&self, i: usize) -> i64 {
+        self.closed.get(i).copied().unwrap_or(0)
     }
 }
