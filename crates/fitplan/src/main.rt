@@ -9,41 +9,31 @@ use planner::Lent;
 use std::io;
 
 // the program's words, the job and its amendments
-mod input;
-// lines of output, collected and written together
-mod page;
-// a line of output
-mod line;
+mod given;
 // what is printed of a plan
 mod report;
 // what is printed of a map
 mod map;
 
 fn main(rt: HostRuntime) -> io::Result<()> {
-    let mut job: input::Buffer = [0; 23577];
-    let mut amendments: input::Amendments = [0; 10241];
-    let mut area: report::Area = [0; 8216];
-    let mut shown: map::Area = [0; 5144];
-    let mut page: page::Page = [0; 16384];
+    let alloc = rt.alloc();
     let lent = Lent {
-        map: input::asks_for_map(&rt),
+        map: given::asks_for_map(&rt),
     };
-    let Ok(file) = input::open_amendments(&rt) else {
+    let Ok(file) = given::open_amendments(&rt) else {
         return Ok(());
     };
-    let sheets = match input::read_amendments(file, &mut amendments) {
-        Ok(sheets) => sheets,
+    let amendments = match given::read_amendments(file, alloc) {
+        Ok(amendments) => amendments,
         Err(e) => return eprintln!(rt; "amendments: {e}"),
     };
-    let length = input::read(&rt, &mut job)?;
-    let outcome = planner::plan(
-        &job[..length],
-        &amendments[..sheets],
-        &mut area,
-        &mut shown,
-        lent,
-    );
-    let used = report::show(&rt, outcome, &area, &mut page, 0)?;
-    let used = map::show(&rt, lent, outcome, &shown, &mut page, used)?;
-    page::write(&rt, &page, used)
+    let job = given::read_job(&rt, alloc)?;
+    let mut sheet: report::Sheet = [0; 8216];
+    let mut map: map::Map = [0; 5144];
+    let outcome = planner::plan(&job, &amendments, &mut sheet, &mut map, lent);
+    // The lines are collected, and written together: a write for each would take longer than the line itself.
+    let mut lines = Vec::new(alloc);
+    report::show(&mut lines, outcome, &sheet)?;
+    map::show(&mut lines, lent, outcome, &map)?;
+    rt.write_all(&lines)
 }

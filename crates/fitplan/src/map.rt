@@ -1,133 +1,80 @@
-//! What is printed of a map: a line for its header, for each count and for each equation, read off its bytes. Where a write fails, the
-//! page has some of the lines, and the rest are not made.
+//! What is printed of a map: a line for its header, for each count and for each equation, read off its bytes.
 
-ghost use Rattle.std.specs.Prelude.{◌≤◌, ◌<◌, IfOk};
+ghost use Rattle.std.specs.Prelude.{◌≤◌, ◌<◌};
 
-use crate::line;
-use crate::line::Line;
-use crate::page::Page;
+use little_endian::u16_at;
 use planner::{Lent, Outcome};
-use std::io;
+use std::fmt::{Display, Formatter};
+use std::io::Write;
+use std::{fmt, io};
 
 /// As long as the longest map: 24 + 4·256 + 4·1,024.
-pub type Area = [u8; 5144];
+pub type Map = [u8; 5144];
+
+/// What an equation does to the sets of counts that those before it joined.
+#[derive(Drop)]
+enum Kind {
+    Joins,
+    Ring,
+    Fixes,
+}
+
+impl From<u16> for Kind {
+    fn from(kind: u16) -> Kind {
+        match kind {
+            1 => Kind::Joins,
+            2 => Kind::Ring,
+            _ => Kind::Fixes,
+        }
+    }
+}
+
+impl Display for Kind {
+    fn fmt<W: fmt::Write>(&self, f: &mut Formatter<W>) -> fmt::Result {
+        f.write_str(match self {
+            Kind::Joins => "joins",
+            Kind::Ring => "ring",
+            Kind::Fixes => "fixes",
+        })
+    }
+}
 
 /// Nothing where no map is lent or the job is refused: then there is none.
 pub(crate) fn show(
-    rt: &impl Print,
+    out: &mut impl Write,
     lent: Lent,
     outcome: Outcome,
-    area: &Area,
-    page: &mut Page,
-    used: usize,
-) -> io::Result<usize>
-    requires { used ≤ 16384 }
-    ensures { IfOk result (λ end. end ≤ 16384) }
-{
-    if !lent.map {
-        return Ok(used);
+    map: &Map,
+) -> io::Result<()> {
+    if !lent.map || matches!(outcome, Outcome::Refused(_)) {
+        return Ok(());
     }
-    match outcome {
-        Outcome::Planned(_) => map(rt, area, page, used),
-        Outcome::NoFit(_) => map(rt, area, page, used),
-        Outcome::Refused(_) => Ok(used),
+    let n = (u16_at(map, 4) as usize).min(256);
+    let m = (u16_at(map, 6) as usize).min(1024);
+    let g = u16_at(map, 16);
+    writeln!(out, "map counts {n} equations {m} groups {g}")?;
+    for i in 0..n {
+        show_variable(out, map, i)?;
     }
-}
-
-fn map(rt: &impl Print, area: &Area, page: &mut Page, used: usize) -> io::Result<usize>
-    requires { used ≤ 16384 }
-    ensures { IfOk result (λ end. end ≤ 16384) }
-{
-    let n = row_count(area, 4, 256);
-    let m = row_count(area, 6, 1024);
-    let g = little_endian::u16_at(area, 16);
-    let used = header(n as u64, m as u64, g).end(rt, page, used)?;
-    rows(rt, area, n, n + m, page, used)
-}
-
-fn header(n: u64, m: u64, g: u64) -> Line {
-    line::start()
-        .text(b"map counts ")
-        .count(n)
-        .text(b" equations ")
-        .count(m)
-        .text(b" groups ")
-        .count(g)
-}
-
-// How many rows a field of the header says there are: no more than can be.
-fn row_count(area: &Area, field: usize, most: usize) -> usize
-    requires { field ≤ 6 }
-    ensures { result ≤ most }
-{
-    let many = little_endian::u16_at(area, field) as usize;
-    if many < most { many } else { most }
-}
-
-// A line for each row: n of variables, and the others of equations.
-fn rows(
-    rt: &impl Print,
-    area: &Area,
-    n: usize,
-    all: usize,
-    page: &mut Page,
-    used: usize,
-) -> io::Result<usize>
-    requires all_bound { all ≤ 1280 }
-    requires used_bound { used ≤ 16384 }
-    ensures { IfOk result (λ end. end ≤ 16384) }
-{
-    let mut end = used;
-    let mut i: usize = 0;
-    while i < all {
-        end = row(area, n, i).end(rt, page, end)?;
-        i += 1;
+    for k in 0..m {
+        show_equation(out, map, k, 24 + 4 * (n + k))?;
     }
-    Ok(end)
+    Ok(())
 }
 
-// Rows of counts and of equations take 4 bytes, and stand one behind the other.
-fn row(area: &Area, n: usize, i: usize) -> Line
-    requires { i < 1280 }
+fn show_variable(out: &mut impl Write, map: &Map, i: usize) -> io::Result<()>
+    requires { i < 256 }
 {
     let at = 24 + 4 * i;
-    if i < n {
-        variable(area, i, at)
-    } else {
-        equation(area, i - n, at)
-    }
+    let group = u16_at(map, at);
+    let degree = u16_at(map, at + 2);
+    writeln!(out, "map count {i} group {group} equations {degree}")
 }
 
-fn variable(area: &Area, i: usize, at: usize) -> Line
+fn show_equation(out: &mut impl Write, map: &Map, k: usize, at: usize) -> io::Result<()>
     requires { at ≤ 5140 }
 {
-    line::start()
-        .text(b"map count ")
-        .count(i as u64)
-        .text(b" group ")
-        .count(little_endian::u16_at(area, at))
-        .text(b" equations ")
-        .count(little_endian::u16_at(area, at + 2))
-}
-
-fn equation(area: &Area, k: usize, at: usize) -> Line
-    requires { at ≤ 5140 }
-{
-    let front = line::start()
-        .text(b"map equation ")
-        .count(k as u64)
-        .text(b" group ")
-        .count(little_endian::u16_at(area, at))
-        .text(b" kind ");
-    kind(front, little_endian::u16_at(area, at + 2))
-}
-
-fn kind(front: Line, kind: u64) -> Line {
-    if kind == 1 {
-        return front.text(b"joins");
-    }
-    if kind == 2 {
-        return front.text(b"ring");
-    }
-    front.text(b"fixes")
+    let group = u16_at(map, at);
+    let kind = Kind::from(u16_at(map, at + 2) as u16);
+    writeln!(out, "map equation {k} group {group} kind {kind}")
 }

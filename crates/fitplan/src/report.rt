@@ -1,139 +1,58 @@
-//! What is printed of a plan, as document 01 shows it. A sheet's lines are read off its bytes. Where a write fails, the page has some of
-//! the lines, and the rest are not made.
+//! What is printed of a plan, as document 01 shows it. A sheet's lines are read off its bytes.
 
-ghost use Rattle.std.specs.Prelude.{◌≤◌, ◌<◌, IfOk};
+ghost use Rattle.std.specs.Prelude.{◌≤◌, ◌<◌};
 
-use crate::line;
-use crate::line::Line;
-use crate::page::Page;
+use little_endian::{i32_at, i64_at, u16_at, u32_at};
 use planner::Outcome;
-use reasons::Reason;
 use std::io;
+use std::io::Write;
 
 /// As long as the longest sheet: 24 + 16·256 + 16·256.
-pub type Area = [u8; 8216];
+pub type Sheet = [u8; 8216];
 
-pub(crate) fn show(
-    rt: &impl Print,
-    outcome: Outcome,
-    area: &Area,
-    page: &mut Page,
-    used: usize,
-) -> io::Result<usize>
-    requires { used ≤ 16384 }
-    ensures { IfOk result (λ end. end ≤ 16384) }
-{
+pub(crate) fn show(out: &mut impl Write, outcome: Outcome, sheet: &Sheet) -> io::Result<()> {
     match outcome {
-        Outcome::Planned(_) => sheet(rt, area, page, used),
-        Outcome::NoFit(variable) => no_fit(variable).end(rt, page, used),
-        Outcome::Refused(reason) => refused(reason).end(rt, page, used),
+        Outcome::Planned(_) => show_sheet(out, sheet),
+        Outcome::NoFit(variable) => writeln!(out, "no fit at count {variable}"),
+        Outcome::Refused(reason) => {
+            writeln!(out, "refused {} row {}", reason.number(), reason.row())
+        }
     }
 }
 
-fn no_fit(variable: u16) -> Line {
-    line::start()
-        .text(b"no fit at count ")
-        .count(variable as u64)
-}
-
-fn refused(reason: Reason) -> Line {
-    line::start()
-        .text(b"refused ")
-        .count(reason.number() as u64)
-        .text(b" row ")
-        .count(reason.row() as u64)
-}
-
-fn sheet(rt: &impl Print, area: &Area, page: &mut Page, used: usize) -> io::Result<usize>
-    requires { used ≤ 16384 }
-    ensures { IfOk result (λ end. end ≤ 16384) }
-{
-    let worth = little_endian::i64_at(area, 16);
-    let n = row_count(area, 4);
-    let g = row_count(area, 6);
-    let used = line::start()
-        .text(b"worth ")
-        .number(worth)
-        .end(rt, page, used)?;
-    rows(rt, area, n, n + g, page, used)
-}
-
-// How many rows a field of the header says there are: 256 at most.
-fn row_count(area: &Area, field: usize) -> usize
-    requires { field ≤ 6 }
-    ensures { result ≤ 256 }
-{
-    let many = little_endian::u16_at(area, field);
-    if many < 256 { many as usize } else { 256 }
-}
-
-// A line for each row: n of variables, and the others of groups.
-fn rows(
-    rt: &impl Print,
-    area: &Area,
-    n: usize,
-    all: usize,
-    page: &mut Page,
-    used: usize,
-) -> io::Result<usize>
-    requires all_bound { all ≤ 512 }
-    requires used_bound { used ≤ 16384 }
-    ensures { IfOk result (λ end. end ≤ 16384) }
-{
-    let mut end = used;
-    let mut i: usize = 0;
-    while i < all {
-        end = row(area, n, i).end(rt, page, end)?;
-        i += 1;
+// A line for each row. Those of variables and of groups take 16 bytes, and stand one behind the other.
+fn show_sheet(out: &mut impl Write, sheet: &Sheet) -> io::Result<()> {
+    let n = (u16_at(sheet, 4) as usize).min(256);
+    let g = (u16_at(sheet, 6) as usize).min(256);
+    writeln!(out, "worth {}", i64_at(sheet, 16))?;
+    for i in 0..n {
+        show_variable(out, sheet, i)?;
     }
-    Ok(end)
+    for i in 0..g {
+        show_group(out, sheet, i, 24 + 16 * (n + i))?;
+    }
+    Ok(())
 }
 
-// Both kinds take 16 bytes, and stand one behind the other.
-fn row(area: &Area, n: usize, i: usize) -> Line
-    requires { i < 512 }
+fn show_variable(out: &mut impl Write, sheet: &Sheet, i: usize) -> io::Result<()>
+    requires { i < 256 }
 {
     let at = 24 + 16 * i;
-    if i < n {
-        variable(area, i, at)
-    } else {
-        group(area, i - n, at)
-    }
+    let number = i32_at(sheet, at);
+    let base = i32_at(sheet, at + 4);
+    let step = i32_at(sheet, at + 8);
+    let group = u16_at(sheet, at + 12);
+    writeln!(
+        out,
+        "count {i} number {number} base {base} step {step} group {group}"
+    )
 }
 
-fn variable(area: &Area, i: usize, at: usize) -> Line
+fn show_group(out: &mut impl Write, sheet: &Sheet, i: usize, at: usize) -> io::Result<()>
     requires { at ≤ 8200 }
 {
-    let number = little_endian::i32_at(area, at);
-    let base = little_endian::i32_at(area, at + 4);
-    let step = little_endian::i32_at(area, at + 8);
-    let group = little_endian::u16_at(area, at + 12);
-    line::start()
-        .text(b"count ")
-        .count(i as u64)
-        .text(b" number ")
-        .number(number)
-        .text(b" base ")
-        .number(base)
-        .text(b" step ")
-        .number(step)
-        .text(b" group ")
-        .count(group)
-}
-
-fn group(area: &Area, i: usize, at: usize) -> Line
-    requires { at ≤ 8200 }
-{
-    let fits = little_endian::u32_at(area, at);
-    let chosen = little_endian::u32_at(area, at + 4);
-    let gain = little_endian::i64_at(area, at + 8);
-    line::start()
-        .text(b"group ")
-        .count(i as u64)
-        .text(b" fits ")
-        .count(fits)
-        .text(b" at ")
-        .count(chosen)
-        .text(b" gain ")
-        .number(gain)
+    let fits = u32_at(sheet, at);
+    let chosen = u32_at(sheet, at + 4);
+    let gain = i64_at(sheet, at + 8);
+    writeln!(out, "group {i} fits {fits} at {chosen} gain {gain}")
 }

@@ -1,7 +1,7 @@
-//! Standard input for the test programs: text, and the whole numbers that stand in it.
+//! What the programs read: as many bytes as are wanted, and for the test programs the whole numbers that stand in a text.
 #![tactic(auto)]
 
-ghost use Rattle.std.specs.Prelude.{◌≢◌, ◌≤◌, IfErr, IfOk, vec_len};
+ghost use Rattle.std.specs.Prelude.{◌≡◌, ◌≢◌, ◌≤◌, None, IfErr, IfOk, vec_len};
 ghost use Rattle.std.specs.IoError.{error_kind};
 
 use arrayvec::ArrayVec;
@@ -9,17 +9,25 @@ use std::alloc::Global;
 use std::io;
 use std::io::{ErrorKind, Read};
 
-/// Standard input to its end, or its first 16,384 bytes. It fails where a read does or memory runs out; a read that a signal interrupts is
-/// tried again.
+/// What a reader has left, or the first `most` bytes of it. It fails where a read does or memory runs out; a read that a signal interrupts
+/// is tried again.
+pub fn read_up_to(reader: impl Read + Drop, most: usize, alloc: Global) -> io::Result<Vec<u8>>
+    ensures limit { IfOk result (λ bytes. vec_len bytes ≤ most) }
+    ensures retried { IfErr result (λ e. error_kind e ≢ ErrorKind.Interrupted) }
+{
+    let mut bytes = Vec::new(alloc);
+    reader.take(most as u64).read_to_end(&mut bytes)?;
+    // There are no more, since `take` gives no more; but the contract of `read_to_end` does not say so.
+    bytes.truncate(most);
+    Ok(bytes)
+}
+
+/// A text on standard input, or its first 16,384 bytes.
 pub fn read(rt: &impl Input, alloc: Global) -> io::Result<Vec<u8>>
     ensures limit { IfOk result (λ text. vec_len text ≤ 16384) }
     ensures retried { IfErr result (λ e. error_kind e ≢ ErrorKind.Interrupted) }
 {
-    let mut text = Vec::new(alloc);
-    rt.reader().take(16384).read_to_end(&mut text)?;
-    // It has no more, as `take` gives no more; the contract of `read_to_end` does not say so.
-    text.truncate(16384);
-    Ok(text)
+    read_up_to(rt.reader(), 16384, alloc)
 }
 
 /// The whole numbers of a text, as far as it is read, and the one that is open. A minus sign stands just before its number. Past the 64th
@@ -28,7 +36,7 @@ pub fn read(rt: &impl Input, alloc: Global) -> io::Result<Vec<u8>>
 pub struct Numbers {
     closed: ArrayVec<i64, 64>,
     // What the digits say that are read so far.
-    open: Option<u64>,
+    begun: Option<u64>,
     is_negative: bool,
 }
 
@@ -37,13 +45,15 @@ impl Numbers {
     pub fn new() -> Numbers {
         Numbers {
             closed: ArrayVec::new(),
-            open: None,
+            begun: None,
             is_negative: false,
         }
     }
 
     /// Those of a whole text, whose end closes the last.
-    pub fn of(text: &[u8]) -> Numbers {
+    pub fn of(text: &[u8]) -> Numbers
+        ensures closed { result.begun ≡ None }
+    {
         let mut numbers = Numbers::new();
         for x in text {
             numbers.read(*x);
@@ -55,8 +65,8 @@ impl Numbers {
     /// Reads one byte more. Of a longer number the last 19 digits count, in two's complement.
     pub fn read(&mut self, x: u8) {
         if x.is_ascii_digit() {
-            let size = self.open.unwrap_or(0) % 1000000000000000000;
-            self.open = Some(10 * size + u64::from(x - b'0'));
+            let size = self.begun.unwrap_or(0) % 1000000000000000000;
+            self.begun = Some(10 * size + u64::from(x - b'0'));
         } else {
             self.close();
             self.is_negative = x == b'-';
@@ -64,8 +74,10 @@ impl Numbers {
     }
 
     // Puts the open number among the others.
-    fn close(&mut self) {
-        if let Some(size) = self.open {
+    fn close(&mut self)
+        ensures closed { self.new.begun ≡ None }
+    {
+        if let Some(size) = self.begun {
             let x = size.cast_signed();
             self.push(if self.is_negative {
                 x.wrapping_neg()
@@ -76,16 +88,18 @@ impl Numbers {
     }
 
     /// Puts one number more, in the place of the open one.
-    pub fn push(&mut self, x: i64) {
+    pub fn push(&mut self, x: i64)
+        ensures closed { self.new.begun ≡ None }
+    {
         // A full list stays as it is.
         let _ = self.closed.try_push(x);
-        self.open = None;
+        self.begun = None;
         self.is_negative = false;
     }
 
     /// Is a number open?
     pub fn is_open(&self) -> bool {
-        self.open.is_some()
+        self.begun.is_some()
     }
 
     /// How many there are, without the open one.
