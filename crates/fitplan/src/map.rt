@@ -1,6 +1,6 @@
 //! What is printed of a map: a line for its header, for each count and for each equation, read off its bytes.
 
-ghost use Rattle.std.specs.Prelude.{◌≤◌, ◌<◌};
+ghost use Rattle.std.specs.Prelude.{◌≡◌, length};
 
 use little_endian::u16_at;
 use planner::{Lent, Outcome};
@@ -53,28 +53,29 @@ pub(crate) fn show(
     let m = (u16_at(map, 6) as usize).min(1024);
     let g = u16_at(map, 16);
     writeln!(out, "map counts {n} equations {m} groups {g}")?;
-    for i in 0..n {
-        show_variable(out, map, i)?;
+    // Rows of counts and of equations take 4 bytes, and stand one behind the other.
+    let (counts, equations) = map[24..].split_at(4 * n);
+    for (i, row) in counts.chunks_exact(4).enumerate() {
+        show_count(out, i, row)?;
     }
-    for k in 0..m {
-        show_equation(out, map, k, 24 + 4 * (n + k))?;
+    for (k, row) in equations.chunks_exact(4).take(m).enumerate() {
+        show_equation(out, k, row)?;
     }
     Ok(())
 }
 
-fn show_variable(out: &mut impl Write, map: &Map, i: usize) -> io::Result<()>
-    requires { i < 256 }
+fn show_count(out: &mut impl Write, i: usize, row: &[u8]) -> io::Result<()>
+    requires { length row.now ≡ 4 }
 {
-    let at = 24 + 4 * i;
-    let group = u16_at(map, at);
-    let degree = u16_at(map, at + 2);
-    writeln!(out, "map count {i} group {group} equations {degree}")
+    let group = u16_at(row, 0);
+    let equations = u16_at(row, 2);
+    writeln!(out, "map count {i} group {group} equations {equations}")
 }
 
-fn show_equation(out: &mut impl Write, map: &Map, k: usize, at: usize) -> io::Result<()>
-    requires { at ≤ 5140 }
+fn show_equation(out: &mut impl Write, k: usize, row: &[u8]) -> io::Result<()>
+    requires { length row.now ≡ 4 }
 {
-    let group = u16_at(map, at);
-    let kind = Kind::from(u16_at(map, at + 2) as u16);
+    let group = u16_at(row, 0);
+    let kind = Kind::from(u16_at(row, 2) as u16);
     writeln!(out, "map equation {k} group {group} kind {kind}")
 }

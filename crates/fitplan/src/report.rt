@@ -1,6 +1,6 @@
 //! What is printed of a plan, as document 01 shows it. A sheet's lines are read off its bytes.
 
-ghost use Rattle.std.specs.Prelude.{◌≤◌, ◌<◌};
+ghost use Rattle.std.specs.Prelude.{◌≡◌, length};
 
 use little_endian::{i32_at, i64_at, u16_at, u32_at};
 use planner::Outcome;
@@ -20,39 +20,39 @@ pub(crate) fn show(out: &mut impl Write, outcome: Outcome, sheet: &Sheet) -> io:
     }
 }
 
-// A line for each row. Those of variables and of groups take 16 bytes, and stand one behind the other.
+// A line for each row. Those of counts and of groups take 16 bytes, and stand one behind the other.
 fn show_sheet(out: &mut impl Write, sheet: &Sheet) -> io::Result<()> {
     let n = (u16_at(sheet, 4) as usize).min(256);
     let g = (u16_at(sheet, 6) as usize).min(256);
     writeln!(out, "worth {}", i64_at(sheet, 16))?;
-    for i in 0..n {
-        show_variable(out, sheet, i)?;
+    let (counts, groups) = sheet[24..].split_at(16 * n);
+    for (i, row) in counts.chunks_exact(16).enumerate() {
+        show_count(out, i, row)?;
     }
-    for i in 0..g {
-        show_group(out, sheet, i, 24 + 16 * (n + i))?;
+    for (i, row) in groups.chunks_exact(16).take(g).enumerate() {
+        show_group(out, i, row)?;
     }
     Ok(())
 }
 
-fn show_variable(out: &mut impl Write, sheet: &Sheet, i: usize) -> io::Result<()>
-    requires { i < 256 }
+fn show_count(out: &mut impl Write, i: usize, row: &[u8]) -> io::Result<()>
+    requires { length row.now ≡ 16 }
 {
-    let at = 24 + 16 * i;
-    let number = i32_at(sheet, at);
-    let base = i32_at(sheet, at + 4);
-    let step = i32_at(sheet, at + 8);
-    let group = u16_at(sheet, at + 12);
+    let number = i32_at(row, 0);
+    let base = i32_at(row, 4);
+    let step = i32_at(row, 8);
+    let group = u16_at(row, 12);
     writeln!(
         out,
         "count {i} number {number} base {base} step {step} group {group}"
     )
 }
 
-fn show_group(out: &mut impl Write, sheet: &Sheet, i: usize, at: usize) -> io::Result<()>
-    requires { at ≤ 8200 }
+fn show_group(out: &mut impl Write, i: usize, row: &[u8]) -> io::Result<()>
+    requires { length row.now ≡ 16 }
 {
-    let fits = u32_at(sheet, at);
-    let chosen = u32_at(sheet, at + 4);
-    let gain = i64_at(sheet, at + 8);
+    let fits = u32_at(row, 0);
+    let chosen = u32_at(row, 4);
+    let gain = i64_at(row, 8);
     writeln!(out, "group {i} fits {fits} at {chosen} gain {gain}")
 }
