@@ -5,7 +5,7 @@
 //! With the word `map` the map stands behind it. AMENDMENTS is a file with the job's amendments.
 #![tactic(auto)]
 
-use planner::Lent;
+use planner::{Areas, Lent};
 use std::io;
 
 // the program's words, the job and its amendments
@@ -30,7 +30,12 @@ fn main(rt: HostRuntime) -> io::Result<()> {
     let job = given::read_job(&rt, alloc)?;
     let mut sheet: report::Sheet = [0; 8216];
     let mut map: map::Map = [0; 5144];
-    let outcome = planner::plan(&job, &amendments, &mut sheet, &mut map, lent);
+    let mut areas = Areas {
+        sheet: &mut sheet,
+        map: &mut map,
+        lent,
+    };
+    let outcome = planner::plan(&job, &amendments, &mut areas);
     // The lines are collected, and written together: a write for each would take longer than the line itself.
     let mut lines = Vec::new(alloc);
     report::show(&mut lines, outcome, &sheet)?;
