@@ -2,9 +2,7 @@
 //! a fault a place, how many bytes it has there, and the number that they hold.
 
 use input::Numbers;
-
-/// As long as a job of 257 variables and 1,025 equations, one of each more than are allowed.
-pub type Buffer = [u8; 23608];
+use std::alloc::{AllocError, Global};
 
 // Each variable is 0..9 with weight 1.
 const VARIABLE: [u8; 12] = [0, 0, 0, 0, 9, 0, 0, 0, 1, 0, 0, 0];
@@ -14,57 +12,68 @@ const EQUATION: [u8; 20] = [
     0, 0, 1, 0, 2, 0, 0, 0, 253, 255, 255, 255, 1, 0, 0, 0, 0, 0, 0, 0,
 ];
 
-// "FIT1"
-const MARK: u64 = 827607366;
+/// What the jobs are written on, each over those before it. As long as a job of 257 variables and 1,025 equations, one of each more than
+/// are allowed; what would lie past the end is left out.
+#[derive(Drop)]
+pub struct Paper {
+    bytes: Vec<u8>,
+}
 
-/// Writes it.
-pub(crate) fn write(b: &mut Buffer, t: Numbers) {
-    lawful(b, (t.get(0) % 65536) as u16, (t.get(1) % 65536) as u16);
-    for i in (3..64).step_by(3) {
-        if i < t.count() {
-            let at = (t.get(i) % 65536) as u32;
-            put(b, at, (t.get(i + 1) % 9) as u32, t.get(i + 2));
+impl Paper {
+    pub(crate) fn new(alloc: Global) -> Result<Paper, AllocError> {
+        Ok(Paper {
+            bytes: vec![in alloc; 0; 23608]?,
+        })
+    }
+
+    /// Its first bytes, if it has so many.
+    pub(crate) fn first(&self, length: i64) -> Option<&[u8]> {
+        let length = usize::try_from(length).ok()?;
+        self.bytes.get(..length)
+    }
+
+    /// Writes the job of the numbers.
+    pub(crate) fn write(&mut self, alloc: Global, t: &Numbers) -> Result<(), AllocError> {
+        let job = lawful(alloc, word(t.get(0)), word(t.get(1)))?;
+        self.put(0, job.as_slice());
+        // Behind the last of the 64 numbers at most, changes are of 0 bytes.
+        for i in (3..64).step_by(3) {
+            let width = t.get(i + 1).cast_unsigned() % 9;
+            let bytes = t.get(i + 2).to_le_bytes();
+            self.put(usize::from(word(t.get(i))), &bytes[..width as usize]);
+        }
+        Ok(())
+    }
+
+    // Bytes at a place.
+    fn put(&mut self, at: usize, bytes: &[u8]) {
+        for (to, from) in self.bytes.iter_mut().skip(at).zip(bytes) {
+            *to = *from;
         }
     }
 }
 
-fn lawful(b: &mut Buffer, n: u16, m: u16) {
-    let start = 24 + 12 * n as u32;
-    let length = start + 20 * m as u32;
-    put(b, 0, 4, MARK);
-    put(b, 4, 4, n as u64 + 65536 * m as u64);
-    put(b, 8, 4, 24);
-    put(b, 12, 4, start as u64);
-    put(b, 16, 8, length as u64);
-    rows(b, start, length);
+// The lowest 16 bits.
+fn word(x: i64) -> u16 {
+    x.rem_euclid(65536) as u16
 }
 
-fn rows(b: &mut Buffer, start: u32, length: u32) {
-    for at in 24..length {
-        store(b, at as usize, row_byte(at, start));
+// A job of n variables and m equations.
+fn lawful(alloc: Global, n: u16, m: u16) -> Result<Vec<u8>, AllocError> {
+    let equations = 24 + 12 * u32::from(n);
+    let length = equations + 20 * u32::from(m);
+    let mut job = Vec::new(alloc);
+    job.extend_from_slice(b"FIT1")?;
+    job.extend_from_slice(&n.to_le_bytes())?;
+    job.extend_from_slice(&m.to_le_bytes())?;
+    job.extend_from_slice(&24u32.to_le_bytes())?;
+    job.extend_from_slice(&equations.to_le_bytes())?;
+    job.extend_from_slice(&u64::from(length).to_le_bytes())?;
+    for _ in 0..n {
+        job.extend_from_slice(&VARIABLE)?;
     }
-}
-
-fn row_byte(at: u32, start: u32) -> u8 {
-    if at < start {
-        VARIABLE[(at % 12) as usize]
-    } else {
-        EQUATION[((at - start) % 20) as usize]
+    for _ in 0..m {
+        job.extend_from_slice(&EQUATION)?;
     }
-}
-
-// The lowest bytes of x, the lowest first.
-fn put(b: &mut Buffer, at: u32, width: u32, x: u64) {
-    let mut rest = x;
-    for i in 0..width {
-        store(b, at as usize + i as usize, (rest % 256) as u8);
-        rest = rest / 256;
-    }
-}
-
-// What would lie past the end is left out.
-fn store(b: &mut Buffer, at: usize, x: u8) {
-    if at < b.len() {
-        b[at] = x;
-    }
+    Ok(job)
 }

@@ -3,7 +3,6 @@
 //! document 01.
 #![tactic(auto)]
 
-use input::Text;
 use std::io;
 
 // the job of some numbers
@@ -12,7 +11,7 @@ mod job;
 mod report;
 
 fn main(rt: HostRuntime) -> io::Result<()> {
-    let mut text: Text = [0; 16384];
-    let length = input::read(&rt, &mut text)?;
-    report::run(&rt, &text[..length])
+    let alloc = rt.alloc();
+    let text = input::read(&rt, alloc)?;
+    report::run(&rt, alloc, text.as_slice())
 }

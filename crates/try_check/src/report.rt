@@ -1,55 +1,50 @@
 //! The text, with the answer for each job that stands in braces.
 
-use crate::job;
-use crate::job::Buffer;
+use crate::job::Paper;
 use input::Numbers;
 use jobs::Checked;
+use reasons::Reason;
+use std::alloc::Global;
 use std::io;
 
-pub(crate) fn run(rt: &impl Print, text: &[u8]) -> io::Result<()> {
-    let mut b: Buffer = [0; 23608];
-    let mut read = input::none();
-    let mut from: usize = 0;
+pub(crate) fn run(rt: &impl Print, alloc: Global, text: &[u8]) -> io::Result<()> {
+    let mut paper = Paper::new(alloc)?;
+    let mut printed = 0;
+    let mut numbers = 0;
     for i in 0..text.len() {
-        let x = text[i];
-        read = read.next(x);
-        if x == b'{' {
-            show(rt, &text[..i], from)?;
-            read = input::none();
+        match text[i] {
+            b'{' => {
+                rt.write_all(&text[printed..i])?;
+                numbers = i + 1;
+            }
+            b'}' => {
+                answer(rt, alloc, &mut paper, &Numbers::of(&text[numbers..i]))?;
+                printed = i + 1;
+            }
+            _ => {}
         }
-        if x == b'}' {
-            answer(rt, &mut b, read)?;
-            from = i + 1;
-        }
     }
-    show(rt, text, from)
+    rt.write_all(&text[printed..])
 }
 
-// The text from a place on.
-fn show(rt: &impl Print, text: &[u8], from: usize) -> io::Result<()> {
-    if from <= text.len() {
-        rt.write_all(&text[from..])?;
-    }
-    Ok(())
-}
-
-// Fewer than three numbers are no job.
-fn answer(rt: &impl Print, b: &mut Buffer, t: Numbers) -> io::Result<()> {
-    if 2 < t.count() {
-        job::write(b, t);
-        ask(rt, b, t.get(2))?;
-    }
-    Ok(())
-}
-
-// The answer for the first bytes of the buffer.
-fn ask(rt: &impl Print, b: &[u8], length: u64) -> io::Result<()> {
-    let end = length as usize;
-    if b.len() < end {
+// Fewer than three numbers are no job; and of one that does not end on the paper nothing is said.
+fn answer(rt: &impl Print, alloc: Global, paper: &mut Paper, t: &Numbers) -> io::Result<()> {
+    if t.len() < 3 {
         return Ok(());
     }
-    match jobs::check(&b[..end]) {
-        Checked::Accepted => print!(rt; "accepted"),
-        Checked::Refused(r) => print!(rt; "{} row {}", r.number(), r.row()),
+    paper.write(alloc, t)?;
+    let Some(job) = paper.first(t.get(2)) else {
+        return Ok(());
+    };
+    match checked(job) {
+        Ok(()) => print!(rt; "accepted"),
+        Err(r) => print!(rt; "{} row {}", r.number(), r.row()),
+    }
+}
+
+fn checked(job: &[u8]) -> Result<(), Reason> {
+    match jobs::check(job) {
+        Checked::Accepted => Ok(()),
+        Checked::Refused(r) => Err(r),
     }
 }
