@@ -2,100 +2,144 @@
 //! equations whose a and b are 1 to 4 in size and whose c is within ±9.
 
 use crate::tally::Tally;
-use crate::task::{RunBits, Task};
-use crate::{search, tally, task};
-use runs::Working;
+use crate::{answer, search};
+use reasons::Reason;
+use runs::{Equation, Run};
+use std::alloc::{AllocError, Global};
 use std::io;
-
-// 13 first numbers, 13 steps and 14 lengths; the runs are those in their one form.
-const RUNS: u64 = 2366;
-
-// 9 numbers a, 9 numbers b and 19 numbers c; the equations are those where neither a nor b is 0.
-const EQUATIONS: u64 = 1539;
+use std::iter::{StepBy, Take};
+use std::ops::RangeInclusive;
 
 /// The cases that disagree stand on lines above the working's two.
-pub(crate) fn all(rt: &impl Print, working: &str, cases: &str, carry: bool) -> io::Result<()> {
-    tried(rt, carry, if carry { EQUATIONS } else { RUNS })?.show(rt, working, cases)
+pub(crate) fn meetings(rt: &impl Print, alloc: Global) -> io::Result<()> {
+    let runs = small_runs(alloc)?;
+    let has = |a: SmallRun, b: SmallRun, x: i8| a.numbers().any(|p| p == x)
+        && b.numbers().any(|q| q == x);
+    let meeting = |a: SmallRun, b: Run| answer::meeting(Run::from(a), b);
+    let tally = compared(rt, runs.as_slice(), runs.as_slice(), has, meeting)?;
+    tally.show(rt, "meeting", " pairs ")
 }
 
-// The tasks whose code is below the end.
-fn tried(rt: &impl Print, carry: bool, end: u64) -> io::Result<Tally> {
-    let mut t = tally::none();
-    for code in 0..end {
-        let task = task_at(carry, code);
-        if is_task(task) {
-            t = over_runs(rt, t, task)?;
+pub(crate) fn carryings(rt: &impl Print, alloc: Global) -> io::Result<()> {
+    let runs = small_runs(alloc)?;
+    let equations = small_equations(alloc)?;
+    let has = |e: SmallEquation, q: SmallRun, p: i8| q.numbers().any(|q| e.holds(p, q));
+    let carrying = |e: SmallEquation, q: Run| answer::carrying(Equation::from(e), q);
+    let tally = compared(rt, equations.as_slice(), runs.as_slice(), has, carrying)?;
+    tally.show(rt, "carrying", " cases ")
+}
+
+// The answer for each task and each run, against the run of all numbers that it has to have.
+fn compared<T: Copy, H: Fn(T, SmallRun, i8) -> bool, W: Fn(T, Run) -> Result<Run, Reason>>(
+    rt: &impl Print,
+    tasks: &[T],
+    runs: &[SmallRun],
+    has: H,
+    working: W,
+) -> io::Result<Tally>
+    requires has { H.IsAlwaysCallable has }
+    requires working { W.IsAlwaysCallable working }
+{
+    let mut tally = Tally::default();
+    for task in tasks {
+        for run in runs {
+            let expected = search::all(|x| has(*task, *run, x));
+            tally.count(expected.many);
+            tally.judge(answer::agree(rt, working(*task, Run::from(*run)), Ok(expected))?);
         }
     }
-    Ok(t)
+    Ok(tally)
 }
 
-// With each run.
-fn over_runs(rt: &impl Print, before: Tally, task: Task) -> io::Result<Tally> {
-    let mut t = before;
-    for code in 0..RUNS {
-        let r = run_at(code);
-        if is_run(r) {
-            let e = search::result(task, r);
-            let expected = Working::Gives(task::run_of(e.first, e.step, e.many));
-            let agrees = task::agrees(rt, task::ask(task, r), expected)?;
-            t = t.with(e.many).agreeing(agrees);
+/// What may be a run from -6 to 6: some end further up, or are not in their one form.
+#[derive(Clone, Copy)]
+struct SmallRun {
+    first: i8,
+    step: u8,
+    many: u8,
+}
+
+impl From<SmallRun> for Run {
+    fn from(r: SmallRun) -> Run {
+        Run {
+            first: i64::from(r.first),
+            step: i64::from(r.step),
+            many: u32::from(r.many),
         }
     }
-    Ok(t)
 }
 
-// First number -6..=6, step 0..=12, 0 to 13 numbers.
-fn run_at(code: u64) -> RunBits {
-    RunBits {
-        first: (code % 13).wrapping_sub(6),
-        step: code / 13 % 13,
-        many: code / 169 % 14,
+impl SmallRun {
+    // As far as 6.
+    fn numbers(self) -> Take<StepBy<RangeInclusive<i8>>> {
+        (self.first..=6)
+            .step_by(usize::from(self.step).max(1))
+            .take(usize::from(self.many))
     }
-}
 
-// a and b -4..=4, c -9..=9; or a run.
-fn task_at(carry: bool, code: u64) -> Task {
-    let r = run_at(code);
-    if carry {
-        return Task {
-            carry: true,
-            a: (code % 9).wrapping_sub(4),
-            b: (code / 9 % 9).wrapping_sub(4),
-            c: (code / 81 % 19).wrapping_sub(9),
-        };
-    }
-    Task {
-        carry: false,
-        a: r.first,
-        b: r.step,
-        c: r.many,
+    // Is it in its one form, with no number above 6?
+    fn is_run(self) -> bool {
+        match self.many {
+            0 => self.first == 0 && self.step == 0,
+            1 => self.step == 0,
+            _ => self.step > 0 && self.numbers().count() == usize::from(self.many),
+        }
     }
 }
 
-fn is_task(t: Task) -> bool {
-    if t.carry {
-        return if t.a == 0 { false } else { t.b != 0 };
+fn small_runs(alloc: Global) -> Result<Vec<SmallRun>, AllocError> {
+    let mut runs = Vec::new(alloc);
+    for many in 0..14 {
+        for step in 0..13 {
+            for first in -6..7 {
+                let run = SmallRun { first, step, many };
+                if run.is_run() {
+                    runs.push(run)?;
+                }
+            }
+        }
     }
-    is_run(RunBits {
-        first: t.a,
-        step: t.b,
-        many: t.c,
-    })
+    Ok(runs)
 }
 
-// Is the run in its one form, with no number above 6?
-fn is_run(r: RunBits) -> bool {
-    if r.many == 0 {
-        return if r.first == 0 { r.step == 0 } else { false };
+/// a·p + b·q = c with small numbers.
+#[derive(Clone, Copy)]
+struct SmallEquation {
+    a: i8,
+    b: i8,
+    c: i8,
+}
+
+impl From<SmallEquation> for Equation {
+    fn from(e: SmallEquation) -> Equation {
+        Equation {
+            a: i64::from(e.a),
+            b: i64::from(e.b),
+            c: i64::from(e.c),
+        }
     }
-    if r.many == 1 {
-        return r.step == 0;
+}
+
+impl SmallEquation {
+    fn holds(self, p: i8, q: i8) -> bool {
+        i32::from(times(self.a, p)) + i32::from(times(self.b, q)) == i32::from(self.c)
     }
-    let way = r.step % 16 * ((r.many - 1) % 16);
-    if 0 < r.step {
-        r.first.wrapping_add(6).wrapping_add(way) <= 12
-    } else {
-        false
+}
+
+fn times(x: i8, y: i8) -> i16 {
+    i16::from(x) * i16::from(y)
+}
+
+fn small_equations(alloc: Global) -> Result<Vec<SmallEquation>, AllocError> {
+    let mut equations = Vec::new(alloc);
+    for c in -9..10 {
+        for b in -4..5 {
+            for a in -4..5 {
+                if a != 0 && b != 0 {
+                    equations.push(SmallEquation { a, b, c })?;
+                }
+            }
+        }
     }
+    Ok(equations)
 }

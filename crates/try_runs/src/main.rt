@@ -8,8 +8,8 @@
 
 use std::io;
 
-// a working with its arguments, and its answer
-mod task;
+// what a working answers
+mod answer;
 // the questions
 mod questions;
 // the plain search
@@ -24,8 +24,9 @@ mod random;
 mod orders;
 
 fn main(rt: HostRuntime) -> io::Result<()> {
-    questions::all(&rt)?;
-    compare::all(&rt, "meeting", " pairs ", false)?;
-    compare::all(&rt, "carrying", " cases ", true)?;
-    orders::all(&rt)
+    let alloc = rt.alloc();
+    questions::all(&rt, alloc)?;
+    compare::meetings(&rt, alloc)?;
+    compare::carryings(&rt, alloc)?;
+    orders::all(&rt, alloc)
 }

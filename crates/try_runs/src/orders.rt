@@ -1,11 +1,11 @@
 //! Lists of three to five runs, each met in several orders and groupings: the answers have to be one.
 
-ghost use Rattle.std.specs.Prelude.{◌<◌};
-
-use crate::random::List;
+use crate::random::KINDS;
 use crate::tally::Tally;
-use crate::{random, tally, task};
-use runs::{Run, Working};
+use crate::{answer, random};
+use reasons::Reason;
+use runs::Run;
+use std::alloc::Global;
 use std::io;
 
 const LISTS: u64 = 6000;
@@ -14,7 +14,7 @@ const LISTS: u64 = 6000;
 const WAYS: u64 = 12;
 
 /// What the lists come to, and one number into which all their runs go.
-#[derive(Clone, Copy)]
+#[derive(Clone, Copy, Default)]
 struct Results {
     tally: Tally,
     refused: u64,
@@ -22,61 +22,54 @@ struct Results {
 }
 
 /// The lists that disagree stand on lines above these.
-pub(crate) fn all(rt: &impl Print) -> io::Result<()> {
-    let r = tried(rt)?;
-    r.tally.show(rt, "lists", " ")?;
-    println!(rt; "lists refused {} mark {}", r.refused, r.mark)
-}
-
-fn tried(rt: &impl Print) -> io::Result<Results> {
-    let mut r = Results {
-        tally: tally::none(),
-        refused: 0,
-        mark: 0,
-    };
+pub(crate) fn all(rt: &impl Print, alloc: Global) -> io::Result<()> {
+    let mut results = Results::default();
     for i in 0..LISTS {
-        r = r.with(rt, i)?;
+        results.take(rt, alloc, i)?;
     }
-    Ok(r)
+    results.tally.show(rt, "lists", " ")?;
+    println!(rt; "lists refused {} mark {}", results.refused, results.mark)
 }
 
 impl Results {
-    // With list i.
-    fn with(self, rt: &impl Print, i: u64) -> io::Result<Results> {
-        let mut r = self;
-        let n = i % 3 + 3;
+    // List i.
+    fn take(&mut self, rt: &impl Print, alloc: Global, i: u64) -> io::Result<()> {
         let seed = pseudo_random::mixed(i);
-        let list = random::list(seed, i / 3 % 4, n);
-        let answer = met(list, n, 0);
-        let same = agree(rt, list, n, seed, answer)?;
+        let kind = KINDS[(i / 3 % 4) as usize];
+        let list = random::list(alloc, seed, kind, (i % 3 + 3) as u32)?;
+        let answer = met(list.clone()?, 0);
+        let same = agree(rt, &list, seed, answer)?;
         if !same {
             println!(rt; "in list {i}")?;
         }
-        r.tally = self.tally.agreeing(same);
+        self.tally.judge(same);
         match answer {
-            Working::Gives(run) => {
-                r.tally = r.tally.with(run.many as u64);
-                r.mark = marked(self.mark, run);
+            Ok(run) => {
+                self.tally.count(run.many);
+                self.mark = marked(self.mark, run);
             }
-            Working::Refused(_) => {
-                r.refused = self.refused.wrapping_add(1);
-            }
+            Err(_) => self.refused = self.refused.saturating_add(1),
         }
-        Ok(r)
+        Ok(())
     }
 }
 
 fn marked(mark: u64, r: Run) -> u64 {
-    let first = pseudo_random::next(mark ^ task::bits(r.first));
-    let step = pseudo_random::next(first ^ task::bits(r.step));
-    pseudo_random::next(step ^ (r.many as u64))
+    let first = pseudo_random::next(mark ^ r.first.cast_unsigned());
+    let step = pseudo_random::next(first ^ r.step.cast_unsigned());
+    pseudo_random::next(step ^ u64::from(r.many))
 }
 
 // Do all ways give this answer?
-fn agree(rt: &impl Print, list: List, n: u64, seed: u64, answer: Working) -> io::Result<bool> {
+fn agree(
+    rt: &impl Print,
+    list: &Vec<Run>,
+    seed: u64,
+    answer: Result<Run, Reason>,
+) -> io::Result<bool> {
     for way in 0..WAYS {
         let of_way = pseudo_random::mixed(seed.wrapping_add(1000 + way));
-        if !task::agrees(rt, answer, met(list, n, of_way))? {
+        if !answer::agree(rt, answer, met(list.clone()?, of_way))? {
             return Ok(false);
         }
     }
@@ -85,43 +78,16 @@ fn agree(rt: &impl Print, list: List, n: u64, seed: u64, answer: Working) -> io:
 
 // Two of the runs that are left are met, and what they meet in takes their place, until one is left. Which two, the seed says: so
 // every order and every grouping may come. A refusal ends it.
-fn met(list: List, n: u64, seed: u64) -> Working {
-    let mut left = list;
-    let mut s = seed;
-    for many in (2..=n).rev() {
-        let i = place(s, many);
-        let j = other(s, many);
-        match runs::meeting(left[i], left[j]) {
-            Working::Gives(r) => {
-                left[i] = r;
-            }
-            Working::Refused(r) => {
-                return Working::Refused(r);
-            }
-        }
-        left[j] = left[place(many - 1, 5)];
-        s = pseudo_random::next(s);
+fn met(mut left: Vec<Run>, mut seed: u64) -> Result<Run, Reason> {
+    while left.len() > 1 {
+        let many = left.len() as u64;
+        let i = (seed % many) as usize;
+        let apart = 1 + seed / 65536 % (many - 1);
+        let j = ((i as u64 + apart) % many) as usize;
+        left[i] = answer::meeting(left[i], left[j])?;
+        left.swap_remove(j);
+        seed = pseudo_random::next(seed);
     }
-    Working::Gives(left[0])
-}
-
-// One of the first places.
-fn place(s: u64, many: u64) -> usize
-    ensures { result < 5 }
-{
-    if many == 0 {
-        return 0;
-    }
-    (s % many % 5) as usize
-}
-
-// Another one.
-fn other(s: u64, many: u64) -> usize
-    ensures { result < 5 }
-{
-    if many < 2 {
-        return 0;
-    }
-    let apart = (s / 65536 % (many - 1)).wrapping_add(1);
-    place((s % many).wrapping_add(apart), many)
+    // No run at all: nothing is left out.
+    Ok(left.pop().unwrap_or(Run::full()))
 }

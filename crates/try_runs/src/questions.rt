@@ -5,58 +5,51 @@
 //!
 //! Each is printed with its answer. Lines that begin with # are comments.
 
-use crate::task;
-use crate::task::Task;
-use input::{Numbers, Text};
-use runs::{Run, Working};
+use crate::answer;
+use input::Numbers;
+use runs::{Equation, Run};
+use std::alloc::Global;
 use std::io;
 
-pub(crate) fn all(rt: &(impl Input + Print)) -> io::Result<()> {
-    let mut text: Text = [0; 16384];
-    let length = input::read(rt, &mut text)?;
-    run(rt, &text[..length])?;
-    print!(rt; "full range")?;
-    task::show(rt, Working::Gives(Run::full()))
-}
-
-// What no line end closes is no line, and passed over.
-fn run(rt: &impl Print, lines: &[u8]) -> io::Result<()> {
-    for line in lines.split_inclusive(|x| *x == b'\n') {
+pub(crate) fn all(rt: &(impl Input + Print), alloc: Global) -> io::Result<()> {
+    let text = input::read(rt, alloc)?;
+    // What no line end closes is no line, and passed over.
+    for line in text.as_slice().split_inclusive(|x| *x == b'\n') {
         if let Some(line) = line.strip_suffix(b"\n") {
             question(rt, line)?;
         }
     }
-    Ok(())
+    print!(rt; "full range")?;
+    answer::show(rt, Ok(Run::full()))
 }
 
 // One line, without its end. Nothing is printed of an empty one.
 fn question(rt: &impl Print, line: &[u8]) -> io::Result<()> {
-    let Some(kind) = line.first() else {
-        return Ok(());
-    };
-    if *kind == b'#' {
+    if line.is_empty() || line.starts_with(b"#") {
         return Ok(());
     }
     rt.write_all(line)?;
-    // What ends the line ends its last number.
-    let mut read = input::none();
-    for x in line {
-        read = read.next(*x);
-    }
-    answer(rt, *kind == b'c', read.next(b'\n'))
+    let numbers = Numbers::of(line);
+    let q = run(&numbers, 3);
+    let answer = if line.starts_with(b"c") {
+        let e = Equation {
+            a: numbers.get(0),
+            b: numbers.get(1),
+            c: numbers.get(2),
+        };
+        answer::carrying(e, q)
+    } else {
+        answer::meeting(run(&numbers, 0), q)
+    };
+    answer::show(rt, answer)
 }
 
-fn answer(rt: &impl Print, carry: bool, read: Numbers) -> io::Result<()> {
-    let t = Task {
-        carry: carry,
-        a: read.get(0),
-        b: read.get(1),
-        c: read.get(2),
-    };
-    let r = task::RunBits {
-        first: read.get(3),
-        step: read.get(4),
-        many: read.get(5),
-    };
-    task::show(rt, task::ask(t, r))
+// The run of three numbers from a place on; of how many, the lowest 32 bits.
+fn run(numbers: &Numbers, at: u8) -> Run {
+    let at = usize::from(at);
+    Run {
+        first: numbers.get(at),
+        step: numbers.get(at + 1),
+        many: numbers.get(at + 2).rem_euclid(4294967296) as u32,
+    }
 }

@@ -1,116 +1,114 @@
 //! Pseudo-random lists of runs, anywhere in the range.
-//!
-//! In kind 0 all runs go through one number, by steps up to 210, so that they share many. In kind 1 the steps are of any size. In
-//! kind 2 the runs go through numbers that lie close together, so that they may share none. Kind 3 is like kind 1, with one run that is
-//! not in its one form, so that all is refused. Once in 32 times a run is empty, and as often it is the full range.
 
-use crate::task;
-use crate::task::RunBits;
+ghost use Rattle.std.specs.Prelude.{◌≤◌};
+
 use runs::Run;
+use std::alloc::{AllocError, Global};
 
-pub type List = [Run; 5];
+/// What the runs of a list are like. Once in 32 times a run is empty, and as often it is the full range.
+#[derive(Clone, Copy, PartialEq, Eq)]
+pub enum Kind {
+    /// All go through one number, by steps up to 210, so that they share many.
+    Shared,
+    /// The steps are of any size.
+    Any,
+    /// They go through numbers that lie close together, so that they may share none.
+    Close,
+    /// Like `Any`, with one run that is not in its one form, so that all is refused.
+    Spoiled,
+}
+
+pub const KINDS: [Kind; 4] = [Kind::Shared, Kind::Any, Kind::Close, Kind::Spoiled];
 
 // The range, counted from its low end.
-const WIDTH: u64 = 2000000000;
+const WIDTH: u32 = 2000000000;
 
-// A step is from 1 to one of these.
-const SIZES: [u64; 8] = [1, 6, 30, 210, 10000, 1000000, 100000000, 2000000000];
-
-/// Of the five runs n count.
-pub(crate) fn list(seed: u64, kind: u64, n: u64) -> List {
-    let spoiled = draw(seed, 1, n);
-    let x = draw(seed, 2, WIDTH + 1);
-    let mut runs: List = [Run {
-        first: 0,
-        step: 0,
-        many: 0,
-    }; 5];
-    for k in 0..5u64 {
-        let own = pseudo_random::mixed(seed.wrapping_add(10 + k));
-        let r = run_at(own, kind, x, k == spoiled);
-        runs[k as usize] = task::run_of(r.first, r.step, r.many);
+pub(crate) fn list(alloc: Global, seed: u64, kind: Kind, n: u32) -> Result<Vec<Run>, AllocError> {
+    let spoiled = up_to(seed, 1, n.saturating_sub(1));
+    let x = up_to(seed, 2, WIDTH);
+    let mut runs = Vec::new(alloc);
+    for k in 0..n {
+        let own = pseudo_random::mixed(seed.wrapping_add(10 + u64::from(k)));
+        let run = lawful(own, kind, x);
+        runs.push(if kind == Kind::Spoiled && k == spoiled {
+            spoil(own, run)
+        } else {
+            run
+        })?;
     }
-    runs
+    Ok(runs)
 }
 
-fn run_at(seed: u64, kind: u64, x: u64, spoiled: bool) -> RunBits {
-    let r = lawful(seed, kind, x);
-    if kind == 3 {
-        if spoiled {
-            return spoil(r, draw(seed, 6, 3));
-        }
-    }
-    r
-}
-
-fn lawful(seed: u64, kind: u64, x: u64) -> RunBits {
-    let form = draw(seed, 0, 32);
-    match form {
-        0 => RunBits {
+fn lawful(seed: u64, kind: Kind, x: u32) -> Run
+    requires { x ≤ 2000000000 }
+{
+    match up_to(seed, 0, 31) {
+        0 => Run {
             first: 0,
             step: 0,
             many: 0,
         },
         1 => through(0, 1, 0, WIDTH),
         _ => {
-            let y = if kind == 2 { near(seed, x) } else { x };
-            let step = step_at(seed, kind);
-            let down = draw(seed, 4, steps(y, step));
-            let up = draw(seed, 5, steps(WIDTH.wrapping_sub(y), step));
+            let y = if kind == Kind::Close {
+                (x + up_to(seed, 1, 2)) % (WIDTH + 1)
+            } else {
+                x
+            };
+            let step = step(seed, kind);
+            let down = up_to(seed, 4, y / step);
+            let up = up_to(seed, 5, (WIDTH - y) / step);
             through(y, step, down, up)
         }
     }
 }
 
 // The run that goes through x, with some numbers below it and some above it.
-fn through(x: u64, step: u64, down: u64, up: u64) -> RunBits {
-    let below = down % 2147483648 * (step % 2147483648);
-    let others = down.wrapping_add(up);
-    RunBits {
-        first: x.wrapping_sub(below).wrapping_sub(1000000000),
-        step: if others == 0 { 0 } else { step },
-        many: others.wrapping_add(1),
+fn through(x: u32, step: u32, down: u32, up: u32) -> Run
+    requires { step ≤ 2000000000 }
+{
+    let others = down.saturating_add(up);
+    Run {
+        first: i64::from(x) - i64::from(down) * i64::from(step) - 1000000000,
+        step: if others == 0 { 0 } else { i64::from(step) },
+        many: others.saturating_add(1),
     }
 }
 
-fn near(seed: u64, x: u64) -> u64 {
-    x.wrapping_add(draw(seed, 1, 3)) % (WIDTH + 1)
-}
-
-fn step_at(seed: u64, kind: u64) -> u64 {
-    let size = draw(seed, 2, if kind == 0 { 4 } else { 8 }) % 8;
-    draw(seed, 3, SIZES[size as usize]).wrapping_add(1)
-}
-
-// How many numbers there are on the way, the one at its start with them.
-fn steps(way: u64, step: u64) -> u64 {
-    if step == 0 {
-        return 1;
-    }
-    (way / step).wrapping_add(1)
+// From 1 up.
+fn step(seed: u64, kind: Kind) -> u32
+    ensures positive { 1 ≤ result }
+    ensures bounded { result ≤ 2000000000 }
+{
+    let sizes = if kind == Kind::Shared { 4 } else { 8 };
+    let most = match up_to(seed, 2, sizes - 1) {
+        0 => 1,
+        1 => 6,
+        2 => 30,
+        3 => 210,
+        4 => 10000,
+        5 => 1000000,
+        6 => 100000000,
+        _ => 2000000000,
+    };
+    1 + up_to(seed, 3, most - 1)
 }
 
 // Out of the range, falling, or too long; and so not in its one form, if it was empty or a single number too.
-fn spoil(r: RunBits, how: u64) -> RunBits {
-    let mut s = r;
-    match how {
-        0 => {
-            s.first = r.first.wrapping_add(WIDTH + 1);
-        }
-        1 => {
-            s.step = 18446744073709551615u64.wrapping_sub(r.step);
-        }
-        _ => {
-            s.many = r.many.wrapping_add(WIDTH + 1);
-        }
+fn spoil(seed: u64, run: Run) -> Run {
+    let mut spoilt = run;
+    match up_to(seed, 6, 2) {
+        0 => spoilt.first = run.first.wrapping_add(i64::from(WIDTH) + 1),
+        1 => spoilt.step = !run.step,
+        _ => spoilt.many = run.many.wrapping_add(WIDTH + 1),
     }
-    s
+    spoilt
 }
 
-// A number below the limit.
-fn draw(seed: u64, place: u64, limit: u64) -> u64 {
-    if limit == 0 {
-        return 0;
-    }
-    pseudo_random::mixed(seed.wrapping_add(place)) / 65536 % limit
+// A number from 0 on.
+fn up_to(seed: u64, place: u64, most: u32) -> u32
+    ensures { result ≤ most }
+{
+    let x = pseudo_random::mixed(seed.wrapping_add(place)) / 65536;
+    (x % (u64::from(most) + 1)) as u32
 }

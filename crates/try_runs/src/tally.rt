@@ -2,56 +2,39 @@
 
 use std::io;
 
-#[derive(Clone, Copy)]
+#[derive(Clone, Copy, Default)]
 pub struct Tally {
-    pub agree: u64,
-    pub empty: u64,
-    pub single: u64,
-    pub longer: u64,
-}
-
-pub(crate) fn none() -> Tally {
-    Tally {
-        agree: 0,
-        empty: 0,
-        single: 0,
-        longer: 0,
-    }
+    agree: u64,
+    empty: u64,
+    single: u64,
+    longer: u64,
 }
 
 impl Tally {
-    // With one result more, of so many numbers.
-    pub(crate) fn with(self, many: u64) -> Tally {
-        let mut t = self;
-        match many {
-            0 => {
-                t.empty = self.empty.wrapping_add(1);
-            }
-            1 => {
-                t.single = self.single.wrapping_add(1);
-            }
-            _ => {
-                t.longer = self.longer.wrapping_add(1);
-            }
+    /// One trial more.
+    pub(crate) fn judge(&mut self, agrees: bool) {
+        if agrees {
+            self.agree = self.agree.saturating_add(1);
         }
-        t
     }
 
-    pub(crate) fn agreeing(self, agree: bool) -> Tally {
-        let mut t = self;
-        if agree {
-            t.agree = self.agree.wrapping_add(1);
-        }
-        t
+    /// One result more, of so many numbers.
+    pub(crate) fn count(&mut self, many: u32) {
+        let results = match many {
+            0 => &mut self.empty,
+            1 => &mut self.single,
+            _ => &mut self.longer,
+        };
+        *results = results.saturating_add(1);
     }
 
-    pub(crate) fn show(self, rt: &impl Print, working: &str, cases: &str) -> io::Result<()> {
+    pub(crate) fn show(&self, rt: &impl Print, working: &str, cases: &str) -> io::Result<()> {
         let Tally {
             agree,
             empty,
             single,
             longer,
-        } = self;
+        } = *self;
         println!(rt; "{working}{cases}{agree} agree")?;
         println!(rt; "{working} results {empty} empty {single} single {longer} longer")
     }
