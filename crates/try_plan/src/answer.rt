@@ -1,82 +1,84 @@
-//! What the planner answers, in numbers.
+//! What the planner answers, and what is expected of it.
 
+use crate::format;
+use crate::format::Entry;
 use planner::{Lent, Outcome};
+use std::alloc::{AllocError, Global};
 
-#[derive(Clone, Copy)]
-pub struct Answer {
-    pub kind: u8,
-    /// the worth in two's complement, or the lowest variable of the group without a fit, or the reason
-    pub value: u64,
-    pub row: u16,
-}
-
-pub const PLANNED: u8 = 0;
-
-pub const NO_FIT: u8 = 1;
-
-pub const REFUSED: u8 = 2;
-
-pub(crate) fn new(kind: u8, value: u64) -> Answer {
-    Answer {
-        kind: kind,
-        value: value,
-        row: 0,
-    }
-}
-
-pub(crate) fn refused(reason: u16, row: u16) -> Answer {
-    Answer {
-        kind: REFUSED,
-        value: reason as u64,
-        row: row,
-    }
+#[derive(Clone, Copy, PartialEq, Eq)]
+pub enum Answer {
+    /// The worth.
+    Planned(i64),
+    /// The lowest variable of the first group without a fit.
+    NoFit(u16),
+    Refused { reason: u16, row: u16 },
 }
 
 /// The planner's own.
 pub(crate) fn of(job: &[u8], area: &mut [u8]) -> Answer {
-    let outcome = planner::plan(job, &[], area, &mut [], Lent { map: false });
-    match outcome {
-        Outcome::Planned(worth) => new(PLANNED, residue(worth)),
-        Outcome::NoFit(variable) => new(NO_FIT, variable as u64),
-        Outcome::Refused(reason) => refused(reason.number(), reason.row()),
+    match planner::plan(job, &[], area, &mut [], Lent { map: false }) {
+        Outcome::Planned(worth) => Answer::Planned(worth),
+        Outcome::NoFit(variable) => Answer::NoFit(variable),
+        Outcome::Refused(reason) => Answer::Refused {
+            reason: reason.number(),
+            row: reason.row(),
+        },
     }
 }
 
-// In two's complement.
-fn residue(x: i64) -> u64 {
-    if x < 0 {
-        return 0u64.wrapping_sub(ints::size(x));
-    }
-    ints::size(x)
-}
-
-impl Answer {
-    pub(crate) fn equals(self, other: Answer) -> bool {
-        if self.kind == other.kind {
-            if self.value == other.value {
-                return self.row == other.row;
-            }
-        }
-        false
-    }
-}
-
-/// What is expected of a job: the answer, and the length of its sheet, which stands in the buffer if it has one.
-#[derive(Clone, Copy)]
+/// What is expected of a job: the answer, the length of its sheet, and the sheet, which counts only where the job is planned.
+#[derive(Drop)]
 pub struct Expected {
     pub answer: Answer,
     pub length: u32,
+    pub sheet: Vec<u8>,
 }
 
 impl Expected {
-    /// In an area of that size: too short is reason 8, also where there is no fit, but after reasons 1 to 7.
-    pub(crate) fn within(self, size: u32) -> Answer {
-        let answer = self.answer;
-        if size < self.length {
-            if answer.kind != REFUSED {
-                return refused(8, 0);
-            }
+    pub(crate) fn refused(alloc: Global, reason: u16, row: u16) -> Expected {
+        Expected {
+            answer: Answer::Refused { reason, row },
+            length: 24,
+            sheet: Vec::new(alloc),
         }
-        answer
+    }
+
+    /// From what the sheet says of each of n variables. There is no fit at the first one whose group has none.
+    pub(crate) fn of<F: Fn(u16) -> Result<Entry, AllocError>>(
+        alloc: Global,
+        n: u16,
+        groups: u16,
+        worth: i64,
+        entry: F,
+    ) -> Result<Expected, AllocError>
+        requires { F.IsAlwaysCallable entry }
+    {
+        let length = format::sheet_length(n, groups);
+        let mut sheet = format::sheet(alloc, n, groups, worth)?;
+        let mut answer = Answer::Planned(worth);
+        for i in 0..n {
+            let entry = entry(i)?;
+            if entry.fits == 0 {
+                answer = Answer::NoFit(i);
+                break;
+            }
+            entry.write(sheet.as_mut_slice(), n, i);
+        }
+        Ok(Expected {
+            answer,
+            length,
+            sheet,
+        })
+    }
+
+    /// In an area of that size: too short is reason 8, also where there is no fit, but after reasons 1 to 7.
+    pub(crate) fn within(&self, size: u32) -> Answer {
+        match self.answer {
+            Answer::Planned(_) | Answer::NoFit(_) if size < self.length => Answer::Refused {
+                reason: 8,
+                row: 0,
+            },
+            answer => answer,
+        }
     }
 }

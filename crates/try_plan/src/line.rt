@@ -4,81 +4,66 @@
 //! numbers of all variables, and each group's chosen k and gain. Without it the weights are 0, and so are the worth and each gain: all
 //! members of a group are worth the same, and the last, which has the highest number at the lowest variable, is expected.
 
-ghost use Rattle.std.specs.Prelude.{◌≤◌};
-
-use crate::answer::{Answer, Expected};
-use crate::format::{Buffer, Entry, Row};
+use crate::answer::Expected;
+use crate::format::{Entry, Equation, Variable};
 use crate::text::Line;
-use crate::{answer, format, wide};
+use crate::{format, wide};
+use std::alloc::{AllocError, Global};
 
 /// How many variables and equations the job has.
-pub(crate) fn variable_count(t: Line) -> u16 {
+pub(crate) fn variable_count(t: &Line) -> u16 {
     if t.has(b'*') {
-        return (t.get(0) % 65536) as u16;
+        return word(t.get(0));
     }
     (t.before(b':') / 2 % 65536) as u16
 }
 
-pub(crate) fn equation_count(t: Line) -> u16 {
+pub(crate) fn equation_count(t: &Line) -> u16 {
     if t.has(b'*') {
-        return (t.after(b':', 1) % 65536) as u16;
+        return word(t.after(b':', 1));
     }
-    let end = if t.has(b';') {
-        t.before(b';')
-    } else {
-        t.before(b'|')
-    };
+    let end = t.before(if t.has(b';') { b';' } else { b'|' });
     (end.wrapping_sub(t.before(b':')) / 5 % 65536) as u16
 }
 
+// The lowest 16 bits.
+pub(crate) fn word(x: i64) -> u16 {
+    x.rem_euclid(65536) as u16
+}
+
 // Which of the variables that the line has says how variable i is: of 256 variables two, in turn.
-fn place(t: Line, i: u16) -> usize {
-    if t.has(b'*') {
-        (i % 2) as usize
-    } else {
-        i as usize
-    }
+fn place(t: &Line, i: u16) -> u16 {
+    if t.has(b'*') { i % 2 } else { i }
 }
 
 // ---- the job
 
-/// Writes it. What is given is its length.
-pub(crate) fn write(b: &mut Buffer, t: Line) -> u32 {
+pub(crate) fn job(alloc: Global, t: &Line) -> Result<Vec<u8>, AllocError> {
     let n = variable_count(t);
     let m = equation_count(t);
-    let length = format::job_header(b, n, m);
-    variables(b, t, n);
-    equations(b, t, n, m);
-    length
-}
-
-fn variables(b: &mut Buffer, t: Line, n: u16) {
+    let mut job = format::job_header(alloc, n, m)?;
     for i in 0..n {
-        let at = place(t, i);
-        let low = at.wrapping_add(at);
-        format::variable(
-            b,
-            i,
-            t.bound(low),
-            t.bound(low.wrapping_add(1)),
-            t.after(b';', at),
-        );
+        let at = usize::from(place(t, i));
+        let variable = Variable {
+            low: t.bound(2 * at),
+            high: t.bound(2 * at + 1),
+            weight: t.after(b';', at),
+        };
+        variable.push_to(&mut job)?;
     }
-}
-
-fn equations(b: &mut Buffer, t: Line, n: u16, m: u16) {
     for k in 0..m {
-        format::equation(b, n, k, row(t, k));
+        equation(t, k).push_to(&mut job)?;
     }
+    Ok(job)
 }
 
-/// Row k.
-pub(crate) fn row(t: Line, k: u16) -> Row {
+/// Equation k.
+pub(crate) fn equation(t: &Line, k: u16) -> Equation {
     if t.has(b'*') {
-        return wide::row(t.after(b':', 0), t.after(b':', 2), k);
+        return wide::equation(t.after(b':', 0), t.after(b':', 2), k);
     }
-    let at = 5 * k as usize;
-    Row {
+    let at = 5 * usize::from(k);
+    Equation {
         a: t.after(b':', at),
         left: t.after(b':', at + 1),
         b: t.after(b':', at + 2),
@@ -89,30 +74,14 @@ pub(crate) fn row(t: Line, k: u16) -> Row {
 
 // ---- what is expected
 
-/// Writes the sheet.
-pub(crate) fn expect(b: &mut Buffer, t: Line) -> Expected {
+pub(crate) fn expect(alloc: Global, t: &Line) -> Result<Expected, AllocError> {
     let n = variable_count(t);
-    let length = format::sheet_header(b, n, groups_below(t, n), t.after(b'>', 0));
-    Expected {
-        answer: rows(b, t, n),
-        length: length,
-    }
+    let worth = t.after(b'>', 0);
+    Expected::of(alloc, n, groups_below(t, n), worth, |i| Ok(entry(t, i)))
 }
 
-// There is no fit at the first variable whose group has none.
-fn rows(b: &mut Buffer, t: Line, n: u16) -> Answer {
-    for i in 0..n {
-        let x = entry(t, i);
-        if x.fits == 0 {
-            return answer::new(answer::NO_FIT, i as u64);
-        }
-        format::sheet_rows(b, n, i, x);
-    }
-    answer::new(answer::PLANNED, t.after(b'>', 0))
-}
-
-fn entry(t: Line, i: u16) -> Entry {
-    let at = place(t, i) % 256;
+fn entry(t: &Line, i: u16) -> Entry {
+    let at = usize::from(place(t, i) % 256);
     let group = groups_below(t, lowest(t, i));
     let base = t.after(b'|', 4 * at + 1);
     let step = t.after(b'|', 4 * at + 2);
@@ -126,46 +95,37 @@ fn entry(t: Line, i: u16) -> Entry {
         } else {
             along(base, step, last)
         },
-        base: base,
-        step: step,
-        group: group,
-        fits: fits,
+        base,
+        step,
+        group,
+        fits,
         chosen: if weighed { t.after(b'>', chosen) } else { last },
-        gain: t.after(b'>', chosen + 1),
+        gain: t.after(b'>', chosen.saturating_add(1)),
     }
 }
 
 // base + step·k, in the 32 bits that a sheet has for it; k is at most 2,000,000,000.
-fn along(base: u64, step: u64, k: u64) -> u64 {
-    base.wrapping_add(step % 4294967296 * (k % 2147483648))
+fn along(base: i64, step: i64, k: i64) -> i64 {
+    base.wrapping_add(step.wrapping_mul(k.rem_euclid(2147483648)))
 }
 
 // Where a group's chosen k stands, behind the worth and the numbers.
-fn chosen_at(t: Line, group: u16) -> usize
-    ensures { result ≤ 300000 }
-{
+fn chosen_at(t: &Line, group: u16) -> usize {
     if t.has(b'*') {
         return 3;
     }
-    1 + variable_count(t) as usize + 2 * group as usize
+    1 + usize::from(variable_count(t)) + 2 * usize::from(group)
 }
 
 // The lowest variable of the group of variable i. Without equations that is i itself.
-fn lowest(t: Line, i: u16) -> u16 {
+fn lowest(t: &Line, i: u16) -> u16 {
     if equation_count(t) == 0 {
         return i;
     }
-    let at = place(t, i) % 256;
-    (t.after(b'|', 4 * at) % 65536) as u16
+    word(t.after(b'|', 4 * usize::from(place(t, i) % 256)))
 }
 
-// How many groups have their lowest variable below i.
-fn groups_below(t: Line, end: u16) -> u16 {
-    let mut g: u16 = 0;
-    for i in 0..end {
-        if lowest(t, i) == i {
-            g = g.wrapping_add(1);
-        }
-    }
-    g
+// How many groups have their lowest variable below the end.
+fn groups_below(t: &Line, end: u16) -> u16 {
+    (0..end).filter(|&i| lowest(t, i) == i).count() as u16
 }

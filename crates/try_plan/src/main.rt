@@ -18,6 +18,8 @@ mod wide;
 mod answer;
 // a job in three areas
 mod trial;
+// small jobs
+mod small;
 // the plain search
 mod search;
 // pseudo-random jobs
@@ -32,7 +34,7 @@ mod kinds;
 mod sweep;
 
 fn main(rt: HostRuntime) -> io::Result<()> {
-    let mut b: format::Buffer = [0; 32896];
-    table::all(&rt, &mut b)?;
-    sweep::all(&rt, &mut b)
+    let alloc = rt.alloc();
+    table::all(&rt, alloc)?;
+    sweep::all(&rt, alloc)
 }

@@ -3,31 +3,26 @@
 use std::io;
 
 /// How many jobs, and how many of them came out other than expected.
-#[derive(Clone, Copy)]
+#[derive(Clone, Copy, Default)]
 pub struct Tally {
     pub jobs: u64,
     pub differ: u64,
 }
 
-pub(crate) fn nothing() -> Tally {
-    Tally { jobs: 0, differ: 0 }
-}
-
 impl Tally {
-    /// With one job more. If it differs, its place among the family's is printed.
-    pub(crate) fn judge(self, rt: &impl Print, right: bool) -> io::Result<Tally> {
-        let mut t = self;
-        t.jobs = self.jobs.wrapping_add(1);
+    /// One job more. If it differs, its place among the family's is printed.
+    pub(crate) fn judge(&mut self, rt: &impl Print, right: bool) -> io::Result<()> {
         if !right {
-            t.differ = self.differ.wrapping_add(1);
             print!(rt; " differs at {}", self.jobs)?;
+            self.differ = self.differ.saturating_add(1);
         }
-        Ok(t)
+        self.jobs = self.jobs.saturating_add(1);
+        Ok(())
     }
 
     /// The rest of a family's line, if it has any jobs.
-    pub(crate) fn report(self, rt: &impl Print) -> io::Result<()> {
-        if 0 < self.jobs {
+    pub(crate) fn report(&self, rt: &impl Print) -> io::Result<()> {
+        if self.jobs > 0 {
             println!(rt; " jobs {} differ {}", self.jobs, self.differ)?;
         }
         Ok(())

@@ -7,96 +7,72 @@
 //! with no number before it for 1.
 
 use input::Numbers;
+use std::alloc::{AllocError, Global};
+use std::collections::BTreeMap;
 
-/// What is read of a line: its numbers, and for each mark how many stand before it.
-#[derive(Clone, Copy)]
+/// What is read of a line: its numbers, and for each mark how many stand before the last one.
+#[derive(Drop)]
 pub struct Line {
     numbers: Numbers,
-    marks: [usize; 128],
-}
-
-// The place of a mark that is not there.
-const NOWHERE: usize = 255;
-
-// The ends of the full range.
-const LOWEST: u64 = 18446744072709551616;
-
-const HIGHEST: u64 = 1000000000;
-
-pub(crate) fn start() -> Line {
-    Line {
-        numbers: input::none(),
-        marks: [NOWHERE; 128],
-    }
+    marks: BTreeMap<u8, usize>,
 }
 
 impl Line {
-    /// After one byte more. Digits count as marks that nothing asks for.
-    pub(crate) fn next(self, x: u8) -> Line {
-        let numbers = spelt(self.numbers, x).next(x);
-        let mut r = self;
-        r.numbers = numbers;
-        if x < 128 {
-            r.marks[x as usize] = numbers.count();
+    pub(crate) fn read(alloc: Global, text: &[u8]) -> Result<Line, AllocError> {
+        let mut numbers = Numbers::new();
+        let mut marks = BTreeMap::new(alloc);
+        for x in text {
+            match *x {
+                b'F' => {
+                    numbers.push(-1000000000);
+                    numbers.push(1000000000);
+                }
+                b'c' if !numbers.is_open() => numbers.read(b'1'),
+                _ => {}
+            }
+            numbers.read(*x);
+            if x.is_ascii_punctuation() {
+                marks.insert(*x, numbers.len())?;
+            }
         }
-        r
+        // The end of the line ends its last number.
+        numbers.read(b'\n');
+        Ok(Line { numbers, marks })
     }
 
     /// How many numbers stand before a mark; all of them where it is missing.
-    pub(crate) fn before(self, x: u8) -> usize {
-        if self.has(x) {
-            if x < 128 {
-                return self.marks[x as usize];
-            }
-        }
-        let numbers = self.numbers;
-        numbers.count()
+    pub(crate) fn before(&self, mark: u8) -> usize {
+        self.marks.get(&mark).copied().unwrap_or(self.numbers.len())
     }
 
     /// Is the mark there?
-    pub(crate) fn has(self, x: u8) -> bool {
-        if x < 128 {
-            self.marks[x as usize] < NOWHERE
-        } else {
-            false
-        }
+    pub(crate) fn has(&self, mark: u8) -> bool {
+        self.marks.contains_key(&mark)
     }
 
     /// How many numbers are expected.
-    pub(crate) fn expected(self) -> usize {
-        self.before(b'>').wrapping_sub(self.before(b'|'))
+    pub(crate) fn expected(&self) -> usize {
+        self.before(b'>').saturating_sub(self.before(b'|'))
     }
 
     /// Number i of the bounds.
-    pub(crate) fn bound(self, i: usize) -> u64 {
-        self.get(if self.has(b'*') { i.wrapping_add(1) } else { i })
+    pub(crate) fn bound(&self, i: usize) -> i64 {
+        self.get(if self.has(b'*') {
+            i.saturating_add(1)
+        } else {
+            i
+        })
     }
 
     /// Number i, and number i behind a mark; 0 where there is none.
-    pub(crate) fn get(self, i: usize) -> u64 {
-        let numbers = self.numbers;
-        numbers.get(i)
+    pub(crate) fn get(&self, i: usize) -> i64 {
+        self.numbers.get(i)
     }
 
-    pub(crate) fn after(self, x: u8, i: usize) -> u64 {
-        if self.has(x) {
-            if i < 64 {
-                return self.get(self.before(x).wrapping_add(i));
-            }
-        }
-        0
-    }
-}
-
-// With the numbers that a letter stands for.
-fn spelt(numbers: Numbers, x: u8) -> Numbers {
-    if x == b'F' {
-        return numbers.with(LOWEST).with(HIGHEST);
-    }
-    if x == b'c' {
-        if !numbers.is_open() {
-            return numbers.next(b'1');
+    pub(crate) fn after(&self, mark: u8, i: usize) -> i64 {
+        match self.marks.get(&mark) {
+            Some(before) => self.get(before.saturating_add(i)),
+            None => 0,
         }
     }
-    numbers
 }

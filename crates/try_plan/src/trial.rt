@@ -2,15 +2,22 @@
 
 use crate::answer;
 use crate::answer::{Answer, Expected};
-use crate::format::{Buffer, SHEET, byte, store};
+use std::alloc::{AllocError, Global};
 use std::io;
 
+// A longer job is not put to the planner, and counts as turned away without a reason.
+const LONGEST: usize = 32896;
+
 /// Is the job planned as expected? In an area that is just long enough, in a longer one, and in one that is a byte too short.
-pub(crate) fn is_right(rt: &impl Print, b: &Buffer, length: u32, x: Expected) -> io::Result<bool> {
-    let mut area: Buffer = [0; 32896];
-    let enough = x.length % 65536;
-    for size in [enough, enough + 9, x.length.wrapping_sub(1)] {
-        if !is_left(rt, b, length, size, x, &mut area)? {
+pub(crate) fn is_right(
+    rt: &impl Print,
+    alloc: Global,
+    job: &[u8],
+    x: &Expected,
+) -> io::Result<bool> {
+    let enough = x.length;
+    for size in [enough, enough.saturating_add(9), enough.saturating_sub(1)] {
+        if !is_right_in(rt, alloc, job, size, x)? {
             return Ok(false);
         }
     }
@@ -18,71 +25,43 @@ pub(crate) fn is_right(rt: &impl Print, b: &Buffer, length: u32, x: Expected) ->
 }
 
 // In an area of one size. If not, what differs is said.
-fn is_left(
+fn is_right_in(
     rt: &impl Print,
-    b: &Buffer,
-    length: u32,
+    alloc: Global,
+    job: &[u8],
     size: u32,
-    x: Expected,
-    area: &mut Buffer,
+    x: &Expected,
 ) -> io::Result<bool> {
+    let mut area = untouched(alloc, size)?;
     let expected = x.within(size);
-    let end = size % 65536 + 16;
-    fill(area, end);
-    if !ask(b, length, area, size).equals(expected) {
+    if ask(job, area.as_mut_slice(), size as usize) != expected {
         print!(rt; " outcome")?;
         return Ok(false);
     }
-    let written = if expected.kind == answer::PLANNED {
-        x.length
-    } else {
-        0
-    };
-    let at = first_difference(b, area, written, end);
-    if at < end {
+    let mut wanted = untouched(alloc, size)?;
+    if let Answer::Planned(_) = expected {
+        for (to, from) in wanted.iter_mut().zip(x.sheet.iter()) {
+            *to = *from;
+        }
+    }
+    if let Some(at) = area.iter().zip(wanted.iter()).position(|(x, y)| *x != *y) {
         print!(rt; " byte {at}")?;
         return Ok(false);
     }
     Ok(true)
 }
 
-// The planner's answer for the first bytes of the job's buffer and of the area's.
-fn ask(b: &[u8], length: u32, area: &mut [u8], size: u32) -> Answer {
-    let end = length as usize;
-    let stop = size as usize;
-    if b.len() < end {
-        return answer::refused(0, 0);
-    }
-    if area.len() < stop {
-        return answer::refused(0, 0);
-    }
-    answer::of(&b[0..end], &mut area[0..stop])
+// What stands before in an area and in 16 bytes behind it.
+fn untouched(alloc: Global, size: u32) -> Result<Vec<u8>, AllocError> {
+    (0..u64::from(size) + 16)
+        .map(|i| ((7 * (i % 256) + 13) % 256) as u8)
+        .collect(alloc)
 }
 
-// What stands in an area before.
-fn pattern(i: u32) -> u64 {
-    7 * i as u64 + 13
-}
-
-fn fill(area: &mut Buffer, end: u32) {
-    for i in 0..end {
-        store(area, i as usize, pattern(i));
+// The planner's answer in the first bytes of the area.
+fn ask(job: &[u8], area: &mut [u8], size: usize) -> Answer {
+    match area.get_mut(..size) {
+        Some(area) if job.len() <= LONGEST => answer::of(job, area),
+        _ => Answer::Refused { reason: 0, row: 0 },
     }
-}
-
-// The first byte of an area that is not as in the sheet, or where nothing is written as before; or the end.
-fn first_difference(b: &Buffer, area: &Buffer, written: u32, end: u32) -> u32 {
-    for i in 0..end {
-        if byte(area, i as usize) != expected(b, i, written) {
-            return i;
-        }
-    }
-    end
-}
-
-fn expected(b: &Buffer, i: u32, written: u32) -> u8 {
-    if i < written {
-        return byte(b, SHEET as usize + i as usize);
-    }
-    (pattern(i) % 256) as u8
 }

@@ -9,42 +9,41 @@
 //! variable to the first, with the higher one on the left. Rows 255 to 1,022 are rings that are redundant: variables an even distance
 //! apart, up to 8, are equal. Row 1,023 is c254 - c255 = c.
 
-use crate::format::Row;
+use crate::format::Equation;
 
 /// Row k, where c is that of the last one.
-pub(crate) fn row(links: u64, c: u64, k: u16) -> Row {
-    let i = k as u64;
-    if k == 1023 {
-        return equal(254, 255, c);
-    }
-    if 254 < k {
-        let left = (i - 255) % 248;
-        return equal(left, left + 2 + 2 * ((i - 255) / 248), 0);
-    }
-    match links {
-        1 => equal(i, i + 1, 0),
-        2 => link(i, i + 1, 2 - i % 2),
-        _ => link(255 - i, 254 - i, 1 + i % 2),
+pub(crate) fn equation(links: i64, c: i64, k: u16) -> Equation {
+    let i = i64::from(k);
+    match (k, links) {
+        (1023, _) => equal(254, 255, c),
+        (0..=254, 1) => equal(i, i + 1, 0),
+        (0..=254, 2) => link(i, i + 1),
+        (0..=254, _) => link(255 - i, 254 - i),
+        _ => {
+            let left = (i - 255) % 248;
+            equal(left, left + 2 + 2 * ((i - 255) / 248), 0)
+        }
     }
 }
 
-fn equal(left: u64, right: u64, c: u64) -> Row {
-    Row {
+fn equal(left: i64, right: i64, c: i64) -> Equation {
+    Equation {
         a: 1,
-        left: left,
-        b: 18446744073709551615,
-        right: right,
-        c: c,
+        left,
+        b: -1,
+        right,
+        c,
     }
 }
 
 // Twice the even one of two variables next to each other, and the odd one, are 0 together.
-fn link(left: u64, right: u64, a: u64) -> Row {
-    Row {
-        a: a,
-        left: left,
-        b: 3u64.wrapping_sub(a),
-        right: right,
+fn link(left: i64, right: i64) -> Equation {
+    let (a, b) = if left % 2 == 0 { (2, 1) } else { (1, 2) };
+    Equation {
+        a,
+        left,
+        b,
+        right,
         c: 0,
     }
 }
