@@ -2,8 +2,6 @@
 
 use crate::job::Paper;
 use input::Numbers;
-use jobs::Checked;
-use reasons::Reason;
 use std::alloc::Global;
 use std::io;
 
@@ -36,15 +34,8 @@ fn answer(rt: &impl Print, alloc: Global, paper: &mut Paper, t: &Numbers) -> io:
     let Some(job) = paper.first(t.get(2)) else {
         return Ok(());
     };
-    match checked(job) {
+    match jobs::check(job) {
         Ok(()) => print!(rt; "accepted"),
         Err(r) => print!(rt; "{} row {}", r.number(), r.row()),
-    }
-}
-
-fn checked(job: &[u8]) -> Result<(), Reason> {
-    match jobs::check(job) {
-        Checked::Accepted => Ok(()),
-        Checked::Refused(r) => Err(r),
     }
 }

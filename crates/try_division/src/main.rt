@@ -5,8 +5,6 @@
 
 ghost use Rattle.std.specs.Prelude.{◌≤◌};
 
-use ints::Division;
-use reasons::Reason;
 use std::io;
 
 const VECTORS: [(i64, i64); 17] = [
@@ -40,16 +38,9 @@ fn main(rt: HostRuntime) -> io::Result<()> {
     println!(&rt; "random pairs {agree} agree")
 }
 
-fn quotient(n: i64, d: i64) -> Result<i64, Reason> {
-    match ints::divide(n, d) {
-        Division::Quotient(q) => Ok(q),
-        Division::Refused(r) => Err(r),
-    }
-}
-
 // A line for a pair: the quotient, or the reason and the row.
 fn show(rt: &impl Print, n: i64, d: i64) -> io::Result<()> {
-    match quotient(n, d) {
+    match ints::divide(n, d) {
         Ok(q) => println!(rt; "{n} by {d} is {q}"),
         Err(r) => println!(rt; "{n} by {d} refused {} row {}", r.number(), r.row()),
     }
@@ -106,7 +97,7 @@ fn largest(i: u64) -> u64
 
 // Is the quotient of n by d the floor? If not, the pair is printed.
 fn agrees(rt: &impl Print, n: i64, d: i64) -> io::Result<bool> {
-    if quotient(n, d).is_ok_and(|q| is_floor(n, d, q)) {
+    if ints::divide(n, d).is_ok_and(|q| is_floor(n, d, q)) {
         return Ok(true);
     }
     print!(rt; "disagree: ")?;

@@ -4,8 +4,6 @@
 
 ghost use Rattle.std.specs.Prelude.{◌<◌, ◌≤◌};
 
-use euclid::CommonDivisor;
-use reasons::Reason;
 use std::io;
 
 // Equal numbers; 1 and b; a and 1; multiples; the first the smaller; either sign; the limit. Consecutive Fibonacci numbers take the
@@ -70,16 +68,9 @@ fn main(rt: HostRuntime) -> io::Result<()> {
     println!(rt; "small pairs {agree} agree, divisions {divisions}, factors add up to {factors}")
 }
 
-fn common_divisor(a: i64, b: i64) -> Result<(i64, u32), Reason> {
-    match euclid::common_divisor(a, b) {
-        CommonDivisor::Greatest(g, n) => Ok((g, n)),
-        CommonDivisor::Refused(r) => Err(r),
-    }
-}
-
 // A line for a pair: the factor and the number of divisions, or the reason and the row.
 fn show(rt: &impl Print, a: i64, b: i64) -> io::Result<()> {
-    match common_divisor(a, b) {
+    match euclid::common_divisor(a, b) {
         Ok((g, n)) => println!(rt; "{a} and {b}: factor {g}, divisions {n}"),
         Err(r) => println!(rt; "{a} and {b}: refused {} row {}", r.number(), r.row()),
     }
@@ -99,7 +90,7 @@ impl Tally {
         requires positive { 1 ≤ b }
         requires small { b ≤ 300 }
     {
-        match common_divisor(i64::from(a), i64::from(b)) {
+        match euclid::common_divisor(i64::from(a), i64::from(b)) {
             Ok((g, n)) if g == i64::from(greatest(a, b)) && n == by_subtraction(a, b) => {
                 self.agree = self.agree.saturating_add(1);
                 self.divisions = self.divisions.saturating_add(u64::from(n));

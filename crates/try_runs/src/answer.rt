@@ -1,23 +1,8 @@
 //! What a working answers.
 
 use reasons::Reason;
-use runs::{Equation, Run, Working};
+use runs::Run;
 use std::io;
-
-pub(crate) fn meeting(a: Run, b: Run) -> Result<Run, Reason> {
-    of(runs::meeting(a, b))
-}
-
-pub(crate) fn carrying(e: Equation, q: Run) -> Result<Run, Reason> {
-    of(runs::carrying(e, q))
-}
-
-fn of(w: Working) -> Result<Run, Reason> {
-    match w {
-        Working::Gives(run) => Ok(run),
-        Working::Refused(r) => Err(r),
-    }
-}
 
 /// What is printed of an answer, and compared: first, step, how many; or the reason and the row.
 pub type Parts = Result<(i64, i64, u32), (u16, u16)>;

@@ -12,20 +12,20 @@ use std::ops::RangeInclusive;
 
 /// The cases that disagree stand on lines above the working's two.
 pub(crate) fn meetings(rt: &impl Print, alloc: Global) -> io::Result<()> {
-    let runs = small_runs(alloc)?;
+    let small = small_runs(alloc)?;
     let has = |a: SmallRun, b: SmallRun, x: i8| a.numbers().any(|p| p == x)
         && b.numbers().any(|q| q == x);
-    let meeting = |a: SmallRun, b: Run| answer::meeting(Run::from(a), b);
-    let tally = compared(rt, runs.as_slice(), runs.as_slice(), has, meeting)?;
+    let meeting = |a: SmallRun, b: Run| runs::meeting(Run::from(a), b);
+    let tally = compared(rt, small.as_slice(), small.as_slice(), has, meeting)?;
     tally.show(rt, "meeting", " pairs ")
 }
 
 pub(crate) fn carryings(rt: &impl Print, alloc: Global) -> io::Result<()> {
-    let runs = small_runs(alloc)?;
+    let small = small_runs(alloc)?;
     let equations = small_equations(alloc)?;
     let has = |e: SmallEquation, q: SmallRun, p: i8| q.numbers().any(|q| e.holds(p, q));
-    let carrying = |e: SmallEquation, q: Run| answer::carrying(Equation::from(e), q);
-    let tally = compared(rt, equations.as_slice(), runs.as_slice(), has, carrying)?;
+    let carrying = |e: SmallEquation, q: Run| runs::carrying(Equation::from(e), q);
+    let tally = compared(rt, equations.as_slice(), small.as_slice(), has, carrying)?;
     tally.show(rt, "carrying", " cases ")
 }
 

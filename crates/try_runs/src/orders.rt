@@ -84,7 +84,7 @@ fn met(mut left: Vec<Run>, mut seed: u64) -> Result<Run, Reason> {
         let i = (seed % many) as usize;
         let apart = 1 + seed / 65536 % (many - 1);
         let j = ((i as u64 + apart) % many) as usize;
-        left[i] = answer::meeting(left[i], left[j])?;
+        left[i] = runs::meeting(left[i], left[j])?;
         left.swap_remove(j);
         seed = pseudo_random::next(seed);
     }

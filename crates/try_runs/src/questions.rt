@@ -37,9 +37,9 @@ fn question(rt: &impl Print, line: &[u8]) -> io::Result<()> {
             b: numbers.get(1),
             c: numbers.get(2),
         };
-        answer::carrying(e, q)
+        runs::carrying(e, q)
     } else {
-        answer::meeting(run(&numbers, 0), q)
+        runs::meeting(run(&numbers, 0), q)
     };
     answer::show(rt, answer)
 }
