@@ -49,8 +49,8 @@ pub(crate) fn show(
     if !lent.map || matches!(outcome, Outcome::Refused(_)) {
         return Ok(());
     }
-    let n = (u16_at(map, 4) as usize).min(256);
-    let m = (u16_at(map, 6) as usize).min(1024);
+    let n = usize::from(u16_at(map, 4)).min(256);
+    let m = usize::from(u16_at(map, 6)).min(1024);
     let g = u16_at(map, 16);
     writeln!(out, "map counts {n} equations {m} groups {g}")?;
     // Rows of counts and of equations take 4 bytes, and stand one behind the other.
@@ -76,6 +76,6 @@ fn show_equation(out: &mut impl Write, k: usize, row: &[u8]) -> io::Result<()>
     requires { length row.now ≡ 4 }
 {
     let group = u16_at(row, 0);
-    let kind = Kind::from(u16_at(row, 2) as u16);
+    let kind = Kind::from(u16_at(row, 2));
     writeln!(out, "map equation {k} group {group} kind {kind}")
 }

@@ -22,8 +22,8 @@ pub(crate) fn show(out: &mut impl Write, outcome: Outcome, sheet: &Sheet) -> io:
 
 // A line for each row. Those of counts and of groups take 16 bytes, and stand one behind the other.
 fn show_sheet(out: &mut impl Write, sheet: &Sheet) -> io::Result<()> {
-    let n = (u16_at(sheet, 4) as usize).min(256);
-    let g = (u16_at(sheet, 6) as usize).min(256);
+    let n = usize::from(u16_at(sheet, 4)).min(256);
+    let g = usize::from(u16_at(sheet, 6)).min(256);
     writeln!(out, "worth {}", i64_at(sheet, 16))?;
     let (counts, groups) = sheet[24..].split_at(16 * n);
     for (i, row) in counts.chunks_exact(16).enumerate() {
