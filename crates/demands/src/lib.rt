@@ -2,7 +2,8 @@
 //!
 //! Beside each `plan` stand variants of it that change nothing: a job turned away that the planner would turn away, an answer
 //! passed on, bytes of the sheet written again as they are. Each is proved to keep the demand. The edits in `must-fail/` change
-//! one operand of a variant, and so put a sham planner of document 01 in its place.
+//! one operand of a variant, and so put a sham planner of document 01 in its place. So functions of the same body stand here side by side:
+//! what each promises is what they differ in.
 #![tactic(auto)]
 
 // a faulty job is turned away, and only a faulty one

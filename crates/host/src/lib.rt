@@ -22,6 +22,7 @@ mod answers;
 
 /// What a planning call gives. `kind` is 1 planned, 2 no fit, 3 refused; `worth` is of the plan, `count` the lowest count of the first group
 /// without a fit-out, `reason` and `row` those of the refusal.
+// Numbers for kinds and reasons, here and below: the C interface.
 #[repr(C)]
 #[derive(Clone, Copy)]
 pub struct FitOutcome {

@@ -1,4 +1,5 @@
-//! The archive for a host in C: the entries of the crate `host`, exported under their names, with the same promises.
+//! The archive for a host in C: the entries of the crate `host`, exported under their names, with the same promises. They stand twice because
+//! only a static library's own functions are exported, and no crate can rest on one.
 #![tactic(auto)]
 
 ghost use Rattle.std.specs.Prelude.{◌≡◌, []};

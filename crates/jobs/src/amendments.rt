@@ -211,6 +211,7 @@ impl Accepted<'_, '_> {
 }
 
 /// Puts the bounds of each sheet over those of its variable, row by row.
+// Over bytes and a number, and not over `Accepted`, which would ask more of a caller.
 pub fn overlay(amendments: &[u8], bounds: &mut [Bounds; 256], n: usize)
     requires n_bound { n ≤ 256 }
     requires referenced { Referenced n (amendments_of amendments.now) (amendment_count amendments.now) }

@@ -60,7 +60,8 @@ impl<'a> Job<'a> {
     }
 }
 
-// Are the offsets, the length field, the zero bytes and the real length as the numbers of rows make them?
+// Are the offsets, the length field, the zero bytes and the real length as the numbers of rows make them? It asks for a header, as the two
+// readers do, in a clause: what it says yes to is a type, `Job`, and one for the header alone would be left again at once.
 fn is_laid_out(job: &[u8], shape: Shape) -> bool
     requires in_bounds { 24 ≤ length job.now }
     requires variables_counted { shape.variables ≡ variable_count job.now }

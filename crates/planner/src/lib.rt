@@ -1,6 +1,7 @@
 //! The planner: it reads a job and writes the sheet of its best solution, or says why there is none.
 //!
-//! Read `specs/Lib.antt`, then this file, then the modules in the order in which they are listed.
+//! Read `specs/Lib.antt`, then this file, then the modules in the order in which they are listed. Arrays have 256 or 1,024 places, as many
+//! as a job may have rows of a kind, and are lent: the archive has no heap.
 #![tactic(auto)]
 
 ghost use Rattle.std.specs.Prelude.{◌≡◌, ◌+◌, ◌*◌, ◌≤◌, ◌↔◌, IsTrue, length};

@@ -86,6 +86,9 @@ fn rename(labels: &mut [u16; 256], low: u16, high: u16, end: usize)
     }
 }
 
+// What follows is over the labels of n variables, and no method of `Components`: the labels are those of a `State` or a `Structure`, which
+// have no spans, and a type for them would ask more of a caller.
+
 /// How many components n variables are in: 01's g.
 #[tactic(auto, using(crate::proofs::LowestVariables::leads_none, crate::proofs::LowestVariables::leads_counted))]
 pub fn count(labels: &[u16; 256], n: usize) -> usize

@@ -25,7 +25,7 @@ pub struct Indices {
 }
 
 // The members of the two families for which the equation holds. `leads` says that the left variable's component has the lower
-// lowest variable, which is that of both together and must rise.
+// lowest variable, which is that of both together and must rise; it chooses one of the two runs and no step.
 pub(crate) fn between(e: Equation, p: Run, q: Run, leads: bool) -> Indices
     requires carry_limits { CarryLimits e }
     requires left_family { FamilyRun p }

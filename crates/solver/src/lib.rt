@@ -1,6 +1,7 @@
 //! The solver: from a job to its components and the family of each.
 //!
-//! Read `specs/Lib.antt`, then this file, then the modules in the order in which they are listed.
+//! Read `specs/Lib.antt`, then this file, then the modules in the order in which they are listed. Arrays have 256 or 1,024 places, as many
+//! as a job may have rows of a kind: the archive has no heap.
 #![tactic(auto)]
 
 use runs::Run;
