@@ -18,6 +18,8 @@ pub mod CountedClass
 pub mod CongruenceSolutions
 -- the period of a congruence's solutions
 pub mod SolutionPeriod
+-- what a value of `Partners` carries
+mod Solved
 -- how large the numbers of carrying are
 pub mod CarryWidths
 -- meeting by the method is the definition: by members (`is_meet`), and by a congruence (`met`)

@@ -1,11 +1,11 @@
 //! The methods of `Equation`: its limits, and the parts of carrying, most of them for an a above 0.
 
-ghost use Rattle.std.specs.Prelude.{◌≡◌, Some, ◌-ℤ◌, ◌*ℤ◌, ◌≤ℤ◌};
+ghost use Rattle.std.specs.Prelude.{◌≡◌, ◌-ℤ◌, ◌*ℤ◌};
 ghost use Rattle.ints.specs.Within.{Within};
 ghost use Rattle.ints.specs.Division.{limit};
 ghost use Rattle.runs.specs.Run.{bound};
 ghost use Rattle.runs.specs.Workings.{CarryLimits, carry_limits};
-ghost use Rattle.runs.specs.Method.{numbers, upright, Carriable, partner_value, places_with_partner, AllSolutions, last_place, partners, rising, step_of, carry_by};
+ghost use Rattle.runs.specs.Method.{numbers, upright, Carriable, partner_value, places_with_partner, rising};
 
 use crate::class::Class;
 use crate::congruence::Congruence;
@@ -51,23 +51,8 @@ impl Equation {
         }
     }
 
-    // The run of the p, from the places of their partners: one at the first of these, if it is in the run, and one more for
-    // each period up to the last place.
-    pub(crate) fn carried(self, q: Run, j: Class) -> Run
-        requires carriable { Carriable self q }
-        requires all_solutions { AllSolutions (places_with_partner self q) j }
-        ensures { result ≡ carry_by (Some j) self q }
-    {
-        let last = q.many as i64 - 1;
-        if last < j.first {
-            return Run::empty();
-        }
-        let more = ints::quotient(last - j.first, j.step);
-        self.rising(self.partners(q, j), more).counted_run(more)
-    }
-
     // The p from the lowest on: with a positive b they fall where q rises.
-    fn rising(self, p: Class, more: i64) -> Class
+    pub(crate) fn rising(self, p: Class, more: i64) -> Class
         requires way { Within limit (p.step *ℤ more) }
         requires lowest { Within limit (p.first -ℤ p.step *ℤ more) }
         ensures { result ≡ rising self p more }
@@ -82,29 +67,8 @@ impl Equation {
         }
     }
 
-    // The class of the p, from the places of their partners, the first of which is in the run.
-    fn partners(self, q: Run, j: Class) -> Class
-        requires carriable { Carriable self q }
-        requires all_solutions { AllSolutions (places_with_partner self q) j }
-        requires first_inside { j.first ≤ℤ last_place q }
-        ensures { result ≡ partners self q j }
-    {
-        Class {
-            first: ints::quotient(self.partner_value(q.numbers_at(j).first), self.a),
-            step: self.step_of(q, j),
-        }
-    }
-
-    // From one p to the next, where q moves by a stride and has a partner once a period.
-    fn step_of(self, q: Run, j: Class) -> i64
-        requires carriable { Carriable self q }
-        requires all_solutions { AllSolutions (places_with_partner self q) j }
-        ensures { result ≡ step_of self q j }
-    {
-        ints::quotient(self.b.abs() * q.stride(), ints::quotient(self.a, j.step))
-    }
-
-    fn partner_value(self, q: i64) -> i64
+    // a·p, by its partner q.
+    pub(crate) fn partner_value(self, q: i64) -> i64
         requires carry_limits { CarryLimits self }
         requires within { Within bound q }
         ensures { result ≡ partner_value self q }

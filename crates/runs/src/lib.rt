@@ -14,6 +14,8 @@ use reasons::Reason;
 mod run_methods;
 // the limits of an equation, and the parts of carrying
 mod equation_methods;
+// the p that have a partner in a run
+mod partners;
 // the members of a residue class in an interval
 mod class;
 // u·i ≡ v (mod d)

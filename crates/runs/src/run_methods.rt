@@ -8,6 +8,7 @@ ghost use Rattle.runs.specs.Method.{numbers, places_in, stride, span, numbers_at
 
 use crate::class::{Class, Interval};
 use crate::congruence::Congruence;
+use crate::partners::Partners;
 use crate::{Equation, Run};
 
 // ±1,000,000,000
@@ -89,7 +90,7 @@ impl Run {
         let up = e.upright();
         match up.places(self).solve() {
             None => Run::empty(),
-            Some(j) => up.carried(self, j),
+            Some(j) => Partners { e: up, q: self, j }.run(),
         }
     }
 

@@ -37,11 +37,8 @@ module _ (c : After-solve) where
 pub returns-then-self-eq0 : goal.returns-then-self-eq0
 returns-then-self-eq0 c = c.empty.ensures ∙ is_carry (empty_carried c.args.e.a c.args.e.b c.args.e.c c.if-self-eq0.true)
 
-pub carried-requires-clause-carriable : goal.carried-requires-clause-carriable
-carried-requires-clause-carriable c = carriable (goal.at.carried-requires-clause-carriable c).After-upright-up
-
 pub returns-in-None : goal.returns-in-None
 returns-in-None c = carries (goal.at.returns-in-None c).After-solve c.empty-in-None.result None c.in-None.is c.empty-in-None.ensures
 
 pub returns-in-Some : goal.returns-in-Some
-returns-in-Some c = carries (goal.at.returns-in-Some c).After-solve c.carried.result (Some c.in-Some.j) c.in-Some.is c.carried.ensures
+returns-in-Some c = carries (goal.at.returns-in-Some c).After-solve c.run.result (Some c.in-Some.j) c.in-Some.is c.run.ensures

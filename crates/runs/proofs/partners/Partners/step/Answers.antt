@@ -1,4 +1,4 @@
--- `Equation::step_of` meets its contract.
+-- `Partners::step` meets its contract.
 use mathlib.Core.Path.{◌≡◌, refl, ◌∙◌, ap}
 use mir.Syntax.{w64}
 use mir.Val.{SFits}
@@ -17,7 +17,8 @@ use Rattle.runs.proofs.SolutionPeriod.{period_above, period_within}
 use Rattle.runs.proofs.CarryMethod.{product_small, parts_above}
 use Rattle.ints.proofs.Signed.{held}
 use Rattle.runs.proofs.CarryWidths.{fits_b}
-use Rattle.runs.proofs.Equation.step_of.Goals as goal
+use Rattle.runs.proofs.Solved.{known}
+use Rattle.runs.proofs.partners.Partners.step.Goals as goal
 
 -- n is the size of b, t the stride and g a divided by the period
 module _ {e : Equation} {q : Run} {j : Class} (p : Carriable e q × AllSolutions (places_with_partner e q) j) where
@@ -71,14 +72,14 @@ module _ {e : Equation} {q : Run} {j : Class} (p : Carriable e q × AllSolutions
             to_z-of_z fits ∙ answered limits_g floor_div h' ∙ rw (n_is, t_is, g_is) refl
 
 pub overflow_mul-abs : goal.overflow_mul-abs
-overflow_mul-abs c = product_asked (c.requires.carriable, c.requires.all_solutions) c.abs.result c.abs.ensures.value c.stride.result c.stride.ensures
+overflow_mul-abs c = product_asked (known c.args.self) c.abs.result c.abs.ensures.value c.stride.result c.stride.ensures
 
 pub quotient-requires : goal.quotient-requires
-quotient-requires c = asked (limits_a (c.requires.carriable, c.requires.all_solutions))
+quotient-requires c = asked (limits_a (known c.args.self))
 
 pub quotient-requires-2 : goal.quotient-requires-2
-quotient-requires-2 c = limits_asked (c.requires.carriable, c.requires.all_solutions) c.abs.result c.abs.ensures.value c.stride.result c.stride.ensures c.quotient.result c.quotient.ensures
+quotient-requires-2 c = limits_asked (known c.args.self) c.abs.result c.abs.ensures.value c.stride.result c.stride.ensures c.quotient.result c.quotient.ensures
 
 pub returns : goal.returns
-returns c = result_is (c.requires.carriable, c.requires.all_solutions) c.abs.result c.abs.ensures.value c.stride.result c.stride.ensures c.quotient.result c.quotient.ensures
+returns c = result_is (known c.args.self) c.abs.result c.abs.ensures.value c.stride.result c.stride.ensures c.quotient.result c.quotient.ensures
     c.quotient-2.result record { sfits = c.quotient-2.type_inv } c.quotient-2.ensures

@@ -1,4 +1,4 @@
--- `Equation::partners` meets its contract.
+-- `Partners::class` meets its contract.
 use mathlib.Core.Path.{◌≡◌, ◌∙◌, ap}
 use mir.Facts.{to_z-of_z}
 use Rattle.ints.specs.Within.{Within}
@@ -10,7 +10,8 @@ use Rattle.runs.specs.Workings.{Equation}
 use Rattle.runs.specs.Method.{Class, Carriable, AllSolutions, last_place, numbers_at, partner_value, places_with_partner}
 use Rattle.runs.proofs.CarryWidths.{fits_q, divided_asked}
 use Rattle.runs.proofs.CarryMethod.{carry_places, start_Within}
-use Rattle.runs.proofs.Equation.partners.Goals as goal
+use Rattle.runs.proofs.Solved.{known}
+use Rattle.runs.proofs.partners.Partners.class.Goals as goal
 
 -- at is the class of the numbers with a partner
 module _ {e : Equation} {q : Run} {j : Class} (p : Carriable e q × (AllSolutions (places_with_partner e q) j × (j.first ≤ℤ last_place q))) (at : Class) (at-is : at ≡ numbers_at q j) where
@@ -29,10 +30,10 @@ module _ {e : Equation} {q : Run} {j : Class} (p : Carriable e q × (AllSolution
     limits_asked = divided_asked p.0.limits within v there
 
 pub numbers_at-requires-clause-places : goal.numbers_at-requires-clause-places
-numbers_at-requires-clause-places c = carry_places c.requires.carriable c.requires.all_solutions
+numbers_at-requires-clause-places c = carry_places c.args.self.carriable (known c.args.self).1
 
 pub partner_value-requires-clause-within : goal.partner_value-requires-clause-within
-partner_value-requires-clause-within c = start_asked (c.requires.carriable, (c.requires.all_solutions, c.requires.first_inside)) c.numbers_at.result c.numbers_at.ensures
+partner_value-requires-clause-within c = start_asked (c.args.self.carriable, ((known c.args.self).1, c.requires)) c.numbers_at.result c.numbers_at.ensures
 
 pub quotient-requires : goal.quotient-requires
-quotient-requires c = limits_asked (c.requires.carriable, (c.requires.all_solutions, c.requires.first_inside)) c.numbers_at.result c.numbers_at.ensures c.partner_value.result c.partner_value.ensures
+quotient-requires c = limits_asked (c.args.self.carriable, ((known c.args.self).1, c.requires)) c.numbers_at.result c.numbers_at.ensures c.partner_value.result c.partner_value.ensures

@@ -1,4 +1,4 @@
--- `Equation::carried` meets its contract: it is `carry_by` of Method.antt, call by call.
+-- `Partners::run` meets its contract: it is `carry_by` of Method.antt, call by call.
 use mathlib.Core.Path.{◌≡◌, sym, ◌∙◌, ap, ap₂}
 use mathlib.Core.Bool.{Bool, true, false}
 use mir.Syntax.{w64}
@@ -9,7 +9,7 @@ use Rattle.ints.specs.Floor.{floor_div}
 use Rattle.ints.specs.Division.{DivisionLimits, limit}
 use Rattle.ints.proofs.{ℤ, pos, ◌-ℤ◌, ◌*ℤ◌, ◌≤ℤ◌, lt_z, [], ◌∷◌, arith, lin, ◌&◌, facts, signed}
 use Rattle.ints.proofs.Signed.{held, cast}
-use Rattle.ints.proofs.Answers.{asked, answered}
+use Rattle.ints.proofs.Answers.{fits_limit, asked, answered}
 use Rattle.std.specs.Prelude.{Some}
 use Rattle.runs.specs.Run.{Run, empty}
 use Rattle.runs.specs.Workings.{Equation}
@@ -17,7 +17,8 @@ use Rattle.runs.specs.Method.{Class, Countable, Carriable, AllSolutions, places_
 use Rattle.runs.proofs.ClassOfRun.{sizes}
 use Rattle.runs.proofs.SolutionPeriod.{period_above}
 use Rattle.runs.proofs.CarryMethod.{carry_places, last_places, more_low, more_high, way_Within, lowest_Within, carry_Countable}
-use Rattle.runs.proofs.Equation.carried.Goals as goal
+use Rattle.runs.proofs.Solved.{known}
+use Rattle.runs.proofs.partners.Partners.run.Goals as goal
 
 -- each number on the way, and that it fits
 module _ {e : Equation} {q : Run} {j : Class} (p : Carriable e q × AllSolutions (places_with_partner e q) j) where
@@ -63,6 +64,9 @@ module _ {e : Equation} {q : Run} {j : Class} (p : Carriable e q × AllSolutions
     limits_asked : DivisionLimits (held (last -ℤ held j.first)) (held j.step)
     limits_asked = rw rest_is (asked limits_rest)
 
+    rest_asked : SFits w64 (last -ℤ held j.first)
+    rest_asked = rw rest_is (fits_limit limits_rest.dividend)
+
     -- n is what the quotient gave
     module _ (n : ℤ) (d : n ≡ floor_div (held (last -ℤ held j.first)) (held j.step)) where
       n_is : n ≡ more_in q j
@@ -89,22 +93,25 @@ module _ {e : Equation} {q : Run} {j : Class} (p : Carriable e q × AllSolutions
           result_is : (r : Run) → r ≡ counted_run u (held n) → r ≡ carry_by (Some j) e q
           result_is r is = rw (test_is test) (is ∙ ap₂ counted_run there held_n)
 
-pub returns-then-last-j : goal.returns-then-last-j
-returns-then-last-j c = past (c.requires.carriable, c.requires.all_solutions) c.if-last-j.true c.empty.result c.empty.ensures
+pub returns-then-last-self : goal.returns-then-last-self
+returns-then-last-self c = past (known c.args.self) c.if-last-self.true c.empty.result c.empty.ensures
+
+pub overflow_sub-last-2 : goal.overflow_sub-last-2
+overflow_sub-last-2 c = rest_asked (known c.args.self) c.if-last-self.false
 
 pub quotient-more-requires : goal.quotient-more-requires
 quotient-more-requires c =
-    limits_asked (c.requires.carriable, c.requires.all_solutions) c.if-last-j.false
+    limits_asked (known c.args.self) c.if-last-self.false
 
 pub rising-requires : goal.rising-requires
 rising-requires c =
-    let both = rising_asked (c.requires.carriable, c.requires.all_solutions) c.if-last-j.false c.quotient-more.result c.quotient-more.ensures c.partners.result c.partners.ensures in record { way = both.0; lowest = both.1 }
+    let both = rising_asked (known c.args.self) c.if-last-self.false c.quotient-more.result c.quotient-more.ensures c.class.result c.class.ensures in record { way = both.0; lowest = both.1 }
 
 pub counted_run-requires : goal.counted_run-requires
 counted_run-requires c =
-    Countable-asked (c.requires.carriable, c.requires.all_solutions) c.if-last-j.false c.quotient-more.result c.quotient-more.ensures c.partners.result c.partners.ensures c.rising.result c.rising.ensures
+    Countable-asked (known c.args.self) c.if-last-self.false c.quotient-more.result c.quotient-more.ensures c.class.result c.class.ensures c.rising.result c.rising.ensures
 
 pub returns : goal.returns
 returns c =
-    result_is (c.requires.carriable, c.requires.all_solutions) c.if-last-j.false c.quotient-more.result c.quotient-more.ensures c.partners.result c.partners.ensures c.rising.result c.rising.ensures
+    result_is (known c.args.self) c.if-last-self.false c.quotient-more.result c.quotient-more.ensures c.class.result c.class.ensures c.rising.result c.rising.ensures
     c.counted_run.result c.counted_run.ensures
