@@ -1,8 +1,8 @@
 -- `solved` meets its contract: where the area is long enough, the planner's verdict is no fit or planned.
-use mathlib.Core.Path.{◌≡◌, refl, sym, ◌∙◌, ap, subst}
+use mathlib.Core.Path.{◌≡◌, sym, ◌∙◌, ap, subst}
 use mathlib.Core.Option.{Option, none}
 use mathlib.Core.List.{List}
-use Prim.Native.Nat.{ℕ, ◌+◌, ◌*◌, ◌≤◌, ◌<◌}
+use Prim.Native.Nat.{ℕ, ◌<◌}
 use native.Mathlib.Omega.{arith}
 use lib.ListN.{length}
 use Rattle.ints.specs.Within.{Within}
@@ -14,9 +14,9 @@ use Rattle.jobs.proofs.Faults.{none_broken}
 use Rattle.planner.specs.Survey.{job_accepted}
 use Rattle.jobs.specs.declared.Bounds.{Bounds}
 use Rattle.jobs.specs.Bounds.{no_bounds, with_bounds, Bounded, BoundedBy}
-use Rattle.jobs.specs.Amendments.{amendments_of, bounds_in_force, amended}
+use Rattle.jobs.specs.Amendments.{amendments_of, bounds_in_force}
 use Rattle.jobs.specs.Faults.{first_broken}
-use Rattle.jobs.specs.Lawful.{LawfulJob, Lawful}
+use Rattle.jobs.specs.Lawful.{LawfulJob}
 use Rattle.jobs.specs.Findings.{Findings, findings}
 use Rattle.jobs.specs.Solution.{number, objective, best}
 use Rattle.jobs.specs.Component.{component_count}
@@ -33,7 +33,6 @@ use Rattle.solver.specs.Labels.{Lowest}
 use Rattle.families.specs.ModelFindings.{leads_by, findings_by}
 use Rattle.planner.specs.Choice.{Members, NoneEmpty, AllWithin, FirstEmpty}
 use Rattle.solver.proofs.In64Bits.{held_element}
-use Rattle.jobs.proofs.Lawful.{lawful as lawful-job}
 use Rattle.jobs.proofs.AmendedJob.{amended-length, variable-amended, amended_with, Bounded-in_force, lawful_amended}
 use Rattle.solver.specs.VariableArrays.{BoundsOf, WeightsOf}
 use Rattle.solver.proofs.LabelsOfJob.{vars}

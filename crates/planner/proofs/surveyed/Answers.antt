@@ -11,11 +11,9 @@ use lib.ListN.{length}
 use Rattle.little_endian.specs.Over.{over}
 use Rattle.reasons.specs.declared.Reason.TheVariants.{ShortArea, ShortMap}
 use Rattle.jobs.specs.declared.Accepted.{Accepted}
-use Rattle.jobs.specs.Call.{Call, lent_as, lending_nothing}
+use Rattle.jobs.specs.Call.{Call, lending_nothing}
 use Rattle.jobs.specs.Job.{Job, job_of, variable_count, equation_count}
-use Rattle.jobs.specs.Amendments.{amended}
 use Rattle.jobs.specs.Faults.{first_broken}
-use Rattle.jobs.specs.Lawful.{Lawful}
 use Rattle.jobs.specs.Component.{component_count}
 use Rattle.jobs.specs.SheetOffsets.{sheet_length}
 use Rattle.jobs.specs.MapOffsets.{map_length}
@@ -25,7 +23,6 @@ use Rattle.jobs.specs.ReasonTable.{Shorter}
 use Rattle.jobs.proofs.AmendedJob.{amended-length, amended_equations}
 use Rattle.jobs.proofs.Components.{length_leads}
 use Rattle.jobs.proofs.Faults.{none_broken, fault_short, fault_map, fault_none}
-use Rattle.jobs.proofs.Lawful.{lawful as lawful-job}
 use Rattle.jobs.proofs.SameEquations.{count_same, map_same}
 use Rattle.families.specs.ModelFindings.{leads_by}
 use Rattle.solver.specs.StateArrays.{label_in}
@@ -47,9 +44,6 @@ module _ (area : Option (List ℕ)) {answer : Bool} {k room : ℕ} (e : IsTrue a
 
   not_shorter : answer ≡ false → ¬ Shorter area room
   not_shorter h d = false≢true (sym h ∙ e.1 (subst (Shorter area) (sym q) d))
-
-not_below : {a b : ℕ} → ¬ (a < b) → b ≤ a
-not_below h = omega (arith, h)
 
 -- of what the check accepts
 module _ (x : Accepted) where
@@ -132,14 +126,11 @@ pub returns-then-is_map_short-clause-surveyed : goal.returns-then-is_map_short-c
 returns-then-is_map_short-clause-surveyed c = let x = c.args.accepted in
     record { first = map_short x c.of_job.new.found c.of_job.ensures c.count-g.result c.count-g.ensures c.args.areas.now (omega (arith, c.length.ensures, c.if-areas-length.false)) (shorter (lent_in c.args.areas.now).map c.is_map_short.ensures c.length-2.ensures c.if-is_map_short.true); untouched = refl }
 
-pub write-requires : goal.write-requires
-write-requires c = let x = c.args.accepted in
-    let lent = c.args.areas.now in record {
-      lowest = low x c.of_job.new.found c.of_job.ensures c.count-g.result c.count-g.ensures;
-      all_below = below x c.of_job.new.found c.of_job.ensures c.count-g.result c.count-g.ensures;
-      counted = c.count-g.ensures;
-      room = not_below (subst (λ b. ¬ Shorter (lent_as b lent.map.now) (24 + 4 * n x + 4 * m x)) c.if-areas.true (not_shorter (lent_in c.args.areas.now).map c.is_map_short.ensures c.length-2.ensures c.if-is_map_short.false));
-    }
+pub write-requires-clause-lowest : goal.write-requires-clause-lowest
+write-requires-clause-lowest c = low c.args.accepted c.of_job.new.found c.of_job.ensures c.count-g.result c.count-g.ensures
+
+pub write-requires-clause-all_below : goal.write-requires-clause-all_below
+write-requires-clause-all_below c = below c.args.accepted c.of_job.new.found c.of_job.ensures c.count-g.result c.count-g.ensures
 
 pub returns-then-areas-clause-surveyed : goal.returns-then-areas-clause-surveyed
 returns-then-areas-clause-surveyed c = let x = c.args.accepted in

@@ -1,12 +1,12 @@
 -- `write` meets its contract: the header, the variables' rows and the equations' rows.
-use mathlib.Core.Path.{◌≡◌, refl, sym, ◌∙◌, ap}
+use mathlib.Core.Path.{◌≡◌, refl, ◌∙◌, ap}
 use mathlib.Core.List.{List}
 use Prim.Native.Nat.{ℕ, ◌+◌, ◌*◌, ◌≤◌, ◌<◌}
 use native.Mathlib.Omega.{arith}
 use lib.ListN.{length, get_or}
 use Rattle.lists.specs.Table.{Tabulates}
 use Rattle.little_endian.specs.Over.{over}
-use Rattle.little_endian.proofs.Over.{over_same, Written, behind_it, length-over}
+use Rattle.little_endian.proofs.Over.{over_same, Written, behind_it}
 use Rattle.jobs.specs.MapLayout.{map_header, map_row, map_rows, map_of}
 use Rattle.jobs.proofs.MapFields.{length_header, length_rows, rows_same}
 use Rattle.families.specs.ModelFindings.{leads_by, component_by}

@@ -4,8 +4,8 @@ use mathlib.Core.List.{List, [], ◌∷◌}
 use Prim.Native.Nat.{ℕ, ◌+◌, ◌*◌, ◌≤◌, ◌<◌}
 use borrow.Author.Rules.{rules}
 use native.Mathlib.Omega.{arith}
-use lib.ListN.{length, get_or, length-append}
-use lib.IntN.{ℤ, pos}
+use lib.ListN.{length, length-append}
+use lib.IntN.{ℤ}
 use Rattle.runs.specs.declared.Run.{Run}
 use Rattle.families.specs.Family.{choice}
 use Rattle.jobs.specs.Solution.{number}
@@ -49,18 +49,15 @@ loop-i-init c = let x = c.args.chosen in
       sym (ap (λ b. over 0 b c.args.part.now) (groups_none g (run_in runs) (chosen_in runs x.slopes.now) (number x.slopes.now)) ∙ over_none 0 c.args.part.now (omega arith)),
     )
 
-pub group-requires : goal.group-requires
-group-requires c = let x = c.args.chosen in
+pub group-requires-clause-at_in_bounds : goal.group-requires-clause-at_in_bounds
+group-requires-clause-at_in_bounds c = let x = c.args.chosen in
     let labels = x.families.state.now.labels in
-    let l = c.loop-i in record {
-      at_in_bounds = omega (
-        arith,
-        l.invariant.0,
-        room (label_in labels) x.families.variables l.i c.args.part.now (omega arith) c.if-state-i.true c.requires,
-        kept labels x.families.state.now.runs x.slopes.now x.families.variables l.i c.args.part.now l.part (omega arith) c.requires l.invariant.1,
-      );
-      some = x.families.none_empty.at l.i (omega arith);
-    }
+    let l = c.loop-i in omega (
+      arith,
+      l.invariant.0,
+      room (label_in labels) x.families.variables l.i c.args.part.now (omega arith) c.if-state-i.true c.requires,
+      kept labels x.families.state.now.runs x.slopes.now x.families.variables l.i c.args.part.now l.part (omega arith) c.requires l.invariant.1,
+    )
 
 pub overflow_add-at : goal.overflow_add-at
 overflow_add-at c = omega (arith, c.loop-i.invariant.0, leads_length (label_in c.args.chosen.families.state.now.labels) c.loop-i.i, c.args.chosen.families.few)

@@ -1,7 +1,6 @@
 -- `header` meets its contract: its fields stand behind each other.
 use mathlib.Core.Path.{◌≡◌, refl, ◌∙◌}
 use Prim.Native.Nat.{ℕ, ◌+◌, ◌*◌, ◌≤◌}
-use mir.Facts.{to_z-of_z}
 use lib.ListN.{length}
 use Rattle.ints.proofs.{ℤ, List, arith}
 use Rattle.little_endian.specs.LittleEndian.{bytes_of, signed_bytes}
@@ -10,7 +9,6 @@ use Rattle.little_endian.specs.Over.{over}
 use Rattle.little_endian.proofs.LittleEndian.{length-bytes_of}
 use Rattle.little_endian.proofs.TwosComplement.{length-signed_bytes}
 use borrow.Author.Rules.{rules}
-use Rattle.families.specs.ModelFindings.{leads_by}
 use Rattle.solver.specs.StateArrays.{label_in}
 use Rattle.solver.proofs.LowestVariables.{leads_length}
 use Rattle.little_endian.proofs.ToBytes.{u16_bytes, u32_bytes, i64_bytes}

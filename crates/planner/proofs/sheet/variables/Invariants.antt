@@ -1,7 +1,7 @@
 -- `variables` meets its contract: row for row.
 use mathlib.Core.Path.{◌≡◌}
 use mathlib.Core.List.{List}
-use Prim.Native.Nat.{ℕ, ◌-◌, ◌≤◌}
+use Prim.Native.Nat.{ℕ}
 use lib.ListN.{get_or}
 use lib.IntN.{ℤ}
 use Rattle.runs.specs.declared.Run.{Run}

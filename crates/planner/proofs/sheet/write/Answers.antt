@@ -7,7 +7,6 @@ use borrow.Author.Rules.{rules}
 use native.Mathlib.Omega.{arith}
 use lib.ListN.{length, get_or}
 use lib.IntN.{ℤ}
-use mir.Facts.{to_z-of_z}
 use Rattle.lists.specs.Table.{Tabulates}
 use Rattle.runs.specs.declared.Run.{Run}
 use Rattle.jobs.specs.Solution.{number}
@@ -15,7 +14,6 @@ use Rattle.jobs.specs.SheetLayout.{sheet_header, sheet_variables, sheet_groups, 
 use Rattle.jobs.proofs.SheetFields.{length_header, length_variables, length_groups}
 use Rattle.families.specs.ModelFindings.{leads_by, component_by}
 use Rattle.solver.specs.StateArrays.{label_in, run_in}
-use Rattle.solver.proofs.LowestVariables.{leads_length}
 use Rattle.little_endian.specs.Over.{over}
 use Rattle.planner.specs.Choice.{chosen_in, findings_in}
 use Rattle.little_endian.proofs.Over.{over_same, over_lent, Written, behind_it, length-over}

@@ -1,7 +1,7 @@
 -- `slopes` meets its contract: each variable adds to its own component.
 use mathlib.Core.Path.{◌≡◌}
 use mathlib.Core.List.{List}
-use Prim.Native.Nat.{ℕ, ◌≤◌, ◌<◌}
+use Prim.Native.Nat.{ℕ, ◌<◌}
 use lib.ListN.{length, get_or}
 use Rattle.ints.proofs.{ℤ, pos, ◌*ℤ◌}
 use Rattle.lists.specs.Sums.{sum_of}

@@ -1,9 +1,9 @@
 -- `worth` meets its contract: term for term.
-use mathlib.Core.Path.{◌≡◌, refl, sym, ◌∙◌, ap}
+use mathlib.Core.Path.{◌≡◌, refl, sym, ◌∙◌}
 use mathlib.Core.List.{List}
 use Prim.Native.Nat.{ℕ, ◌+◌, ◌<◌}
 use mir.Syntax.{w64}
-use mir.Val.{SFits, to_z}
+use mir.Val.{SFits}
 use Rattle.ints.specs.Within.{Within}
 use Rattle.ints.proofs.{ℤ, pos, ◌+ℤ◌, ◌*ℤ◌, arith}
 use Rattle.ints.proofs.Signed.{held}
@@ -60,7 +60,3 @@ overflow_add-worth c = sum_fits c.args.self c.args.numbers.now c.requires c.loop
 
 pub loop-i-preserved : goal.loop-i-preserved
 loop-i-preserved c = after c.args.self c.args.numbers.now c.requires c.loop-i.i (omega arith) c.loop-i.invariant
-
-pub returns : goal.returns
-returns c = let e : c.loop-i.i ≡ c.args.self.variables = omega arith in
-    c.loop-i.invariant ∙ ap (objective_in c.args.self.weights.now c.args.numbers.now) e
