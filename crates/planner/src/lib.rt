@@ -37,7 +37,7 @@ mod sheet;
 // the map
 mod map;
 
-/// The planner's answer.
+/// The planner's answer: one of three, where a refusal holds its reason with the row, as document 01 wants it.
 #[derive(Clone, Copy)]
 pub enum Outcome {
     /// The sheet stands in the answer area, and its numbers are worth so much.
@@ -61,7 +61,8 @@ pub struct Lent {
     pub map: bool,
 }
 
-/// The areas of a planning call: the answer area, for the sheet, and the map area, which is any slice where it is not lent.
+/// The areas of a planning call: the answer area, for the sheet, and the map area, which is any slice where it is not lent. The flags stand
+/// beside the slices: where a field was an `Option` of a slice, a caller's proof knew of it no more than its length.
 #[derive(Drop)]
 pub struct Areas<'s, 'm> {
     pub sheet: &'s mut [u8],

@@ -116,7 +116,7 @@ module _ (x : Accepted) where
         map_long h = fault_none call accepted (λ d. omega (arith, d, room)) (λ d. h (subst (Shorter (lent_in lent).map) (sym map_whole) d))
 
 pub length-requires : goal.length-requires
-length-requires c = let x = c.args.accepted in g_small x c.of_job.new.found c.of_job.ensures c.count-g.result c.count-g.ensures
+length-requires c = omega (arith, g_small c.args.accepted c.of_job.new.found c.of_job.ensures c.count-g.result c.count-g.ensures)
 
 pub returns-then-areas-length-clause-surveyed : goal.returns-then-areas-length-clause-surveyed
 returns-then-areas-length-clause-surveyed c = let x = c.args.accepted in
