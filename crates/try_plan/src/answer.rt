@@ -2,7 +2,7 @@
 
 use crate::format;
 use crate::format::Entry;
-use planner::{Lent, Outcome};
+use planner::{Areas, Lent, Outcome};
 use std::alloc::{AllocError, Global};
 
 #[derive(Clone, Copy, PartialEq, Eq)]
@@ -15,8 +15,13 @@ pub enum Answer {
 }
 
 /// The planner's own.
-pub(crate) fn of(job: &[u8], area: &mut [u8]) -> Answer {
-    match planner::plan(job, &[], area, &mut [], Lent { map: false }) {
+pub(crate) fn of(job: &[u8], sheet: &mut [u8]) -> Answer {
+    let mut areas = Areas {
+        sheet,
+        map: &mut [],
+        lent: Lent { map: false },
+    };
+    match planner::plan(job, &[], &mut areas) {
         Outcome::Planned(worth) => Answer::Planned(worth),
         Outcome::NoFit(variable) => Answer::NoFit(variable),
         Outcome::Refused(reason) => Answer::Refused {

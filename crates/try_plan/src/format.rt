@@ -27,15 +27,15 @@ pub(crate) fn job_header(alloc: Global, n: u16, m: u16) -> Result<Vec<u8>, Alloc
     header(alloc, b"FIT1", [n, m], equations, i64::from(length))
 }
 
-/// The fields of a variable's row.
+/// The fields of a variable's row: as they are written, or of a small job.
 #[derive(Clone, Copy)]
-pub struct Variable {
-    pub low: i64,
-    pub high: i64,
-    pub weight: i64,
+pub struct Variable<T> {
+    pub low: T,
+    pub high: T,
+    pub weight: T,
 }
 
-impl Variable {
+impl Variable<i64> {
     /// Puts its row behind those of the variables before it.
     pub(crate) fn push_to(self, job: &mut Vec<u8>) -> Result<(), AllocError> {
         job.extend_from_slice(&self.low.to_le_bytes()[..4])?;
@@ -46,19 +46,19 @@ impl Variable {
 
 /// The fields of an equation's row: a·left + b·right = c.
 #[derive(Clone, Copy)]
-pub struct Equation {
-    pub a: i64,
-    pub left: i64,
-    pub b: i64,
-    pub right: i64,
-    pub c: i64,
+pub struct Equation<T> {
+    pub a: T,
+    pub left: u16,
+    pub b: T,
+    pub right: u16,
+    pub c: T,
 }
 
-impl Equation {
+impl Equation<i64> {
     /// Puts its row behind those of the equations before it.
     pub(crate) fn push_to(self, job: &mut Vec<u8>) -> Result<(), AllocError> {
-        job.extend_from_slice(&self.left.to_le_bytes()[..2])?;
-        job.extend_from_slice(&self.right.to_le_bytes()[..2])?;
+        job.extend_from_slice(&self.left.to_le_bytes())?;
+        job.extend_from_slice(&self.right.to_le_bytes())?;
         job.extend_from_slice(&self.a.to_le_bytes()[..4])?;
         job.extend_from_slice(&self.b.to_le_bytes()[..4])?;
         job.extend_from_slice(&self.c.to_le_bytes())

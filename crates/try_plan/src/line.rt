@@ -22,6 +22,7 @@ pub(crate) fn equation_count(t: &Line) -> u16 {
     if t.has(b'*') {
         return word(t.after(b':', 1));
     }
+    // A semicolon that stands first makes it a number past every limit.
     let end = t.before(if t.has(b';') { b';' } else { b'|' });
     (end.wrapping_sub(t.before(b':')) / 5 % 65536) as u16
 }
@@ -58,16 +59,16 @@ pub(crate) fn job(alloc: Global, t: &Line) -> Result<Vec<u8>, AllocError> {
 }
 
 /// Equation k.
-pub(crate) fn equation(t: &Line, k: u16) -> Equation {
+pub(crate) fn equation(t: &Line, k: u16) -> Equation<i64> {
     if t.has(b'*') {
         return wide::equation(t.after(b':', 0), t.after(b':', 2), k);
     }
     let at = 5 * usize::from(k);
     Equation {
         a: t.after(b':', at),
-        left: t.after(b':', at + 1),
+        left: word(t.after(b':', at + 1)),
         b: t.after(b':', at + 2),
-        right: t.after(b':', at + 3),
+        right: word(t.after(b':', at + 3)),
         c: t.after(b':', at + 4),
     }
 }

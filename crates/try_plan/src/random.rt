@@ -36,7 +36,7 @@ pub(crate) fn job(alloc: Global, i: u64) -> Result<Vec<u8>, AllocError> {
     Ok(job)
 }
 
-fn variable(seed: u64, i: u8) -> Variable {
+fn variable(seed: u64, i: u8) -> Variable<i64> {
     let low = i64::from(lowest(seed, i));
     Variable {
         low,
@@ -54,7 +54,7 @@ fn form_of(seed: u64, k: u8, m: u8) -> Form {
     form
 }
 
-fn equation(seed: u64, n: u8, k: u8, form: Form) -> Equation {
+fn equation(seed: u64, n: u8, k: u8, form: Form) -> Equation<i64> {
     let at = 100 + 10 * u64::from(k);
     let left = draw(seed, at, n);
     let apart = 1 + u64::from(draw(seed, at + 1, n.saturating_sub(1)));
@@ -74,9 +74,9 @@ fn equation(seed: u64, n: u8, k: u8, form: Form) -> Equation {
     let met = i64::from(times(a, point(seed, left))) + i64::from(times(b, point(seed, right)));
     Equation {
         a: i64::from(a),
-        left: i64::from(left),
+        left: u16::from(left),
         b: i64::from(b),
-        right: i64::from(right),
+        right: u16::from(right),
         // From the c with which the equation holds at the point.
         c: match form {
             Form::Any => i64::from(draw(seed, at + 4, 33)) - 16,

@@ -1,8 +1,8 @@
 //! The plan of a small job by plain search, through all lists of numbers within the bounds, of which there are at most 32,768.
 
 use crate::answer::Expected;
-use crate::format::Entry;
-use crate::small::{Equation, Job, Labels, Variable};
+use crate::format::{Entry, Equation, Variable};
+use crate::small::{Job, Labels};
 use std::alloc::{AllocError, Global};
 
 /// A number for each variable.
@@ -20,7 +20,7 @@ fn times(x: i8, y: i8) -> i16 {
     i16::from(x) * i16::from(y)
 }
 
-fn holds(e: Equation, list: List) -> bool {
+fn holds(e: Equation<i8>, list: List) -> bool {
     let left = times(e.a, number(list, e.left));
     let right = times(e.b, number(list, e.right));
     i32::from(left) + i32::from(right) == i32::from(e.c)
@@ -37,7 +37,7 @@ struct Part<'a> {
 
 impl Part<'_> {
     // Variable i, if it is in the group.
-    fn member(self, i: u16) -> Option<Variable> {
+    fn member(self, i: u16) -> Option<Variable<i8>> {
         if self.labels.of(i) == self.group {
             self.job.variables.get(usize::from(i)).copied()
         } else {
@@ -200,7 +200,7 @@ fn entry(
     })
 }
 
-// What no sheet says.
+// What no sheet says. It is a number, since what is expected are bytes.
 const UNSAID: i64 = 4294967295;
 
 // Is it as far from each to the next as from the first to the second?

@@ -2,16 +2,10 @@
 
 ghost use Rattle.std.specs.Prelude.{◌≤◌};
 
+use crate::format::{Equation, Variable};
 use std::alloc::{AllocError, Global};
 
-#[derive(Clone, Copy)]
-pub struct Variable {
-    pub low: i8,
-    pub high: i8,
-    pub weight: i8,
-}
-
-impl Variable {
+impl Variable<i8> {
     /// How many numbers are within its bounds.
     pub(crate) fn width(self) -> u64
         ensures { result ≤ 256 }
@@ -24,17 +18,7 @@ impl Variable {
     }
 }
 
-/// a·left + b·right = c.
-#[derive(Clone, Copy)]
-pub struct Equation {
-    pub left: u16,
-    pub right: u16,
-    pub a: i8,
-    pub b: i8,
-    pub c: i8,
-}
-
-impl Equation {
+impl Equation<i8> {
     /// The variable whose group it belongs to.
     pub(crate) fn home(self) -> u16 {
         if self.a == 0 && self.b != 0 {
@@ -47,8 +31,8 @@ impl Equation {
 
 #[derive(Drop)]
 pub struct Job {
-    pub variables: Vec<Variable>,
-    pub equations: Vec<Equation>,
+    pub variables: Vec<Variable<i8>>,
+    pub equations: Vec<Equation<i8>>,
 }
 
 impl Job {

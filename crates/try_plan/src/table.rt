@@ -78,7 +78,7 @@ fn forms(
 }
 
 // With either variable on the left, a and b of both signs and 1 to 3 in size, and c from 0 out to both sides, 72 forms for each.
-fn form(code: u64, e: Equation) -> Equation {
+fn form(code: u64, e: Equation<i64>) -> Equation<i64> {
     let (left, right) = if code % 2 == 1 {
         (e.right, e.left)
     } else {

@@ -12,21 +12,20 @@
 use crate::format::Equation;
 
 /// Row k, where c is that of the last one.
-pub(crate) fn equation(links: i64, c: i64, k: u16) -> Equation {
-    let i = i64::from(k);
+pub(crate) fn equation(links: i64, c: i64, k: u16) -> Equation<i64> {
     match (k, links) {
         (1023, _) => equal(254, 255, c),
-        (0..=254, 1) => equal(i, i + 1, 0),
-        (0..=254, 2) => link(i, i + 1),
-        (0..=254, _) => link(255 - i, 254 - i),
+        (0..=254, 1) => equal(k, k + 1, 0),
+        (0..=254, 2) => link(k, k + 1),
+        (0..=254, _) => link(255 - k, 254 - k),
         _ => {
-            let left = (i - 255) % 248;
-            equal(left, left + 2 + 2 * ((i - 255) / 248), 0)
+            let left = (k - 255) % 248;
+            equal(left, left + 2 + 2 * ((k - 255) / 248), 0)
         }
     }
 }
 
-fn equal(left: i64, right: i64, c: i64) -> Equation {
+fn equal(left: u16, right: u16, c: i64) -> Equation<i64> {
     Equation {
         a: 1,
         left,
@@ -37,7 +36,7 @@ fn equal(left: i64, right: i64, c: i64) -> Equation {
 }
 
 // Twice the even one of two variables next to each other, and the odd one, are 0 together.
-fn link(left: i64, right: i64) -> Equation {
+fn link(left: u16, right: u16) -> Equation<i64> {
     let (a, b) = if left % 2 == 0 { (2, 1) } else { (1, 2) };
     Equation {
         a,
