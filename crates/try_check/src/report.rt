@@ -9,8 +9,8 @@ pub(crate) fn run(rt: &impl Print, alloc: Global, text: &[u8]) -> io::Result<()>
     let mut paper = Paper::new(alloc)?;
     let mut printed = 0;
     let mut numbers = 0;
-    for i in 0..text.len() {
-        match text[i] {
+    for (i, x) in text.iter().enumerate() {
+        match *x {
             b'{' => {
                 rt.write_all(&text[printed..i])?;
                 numbers = i + 1;
