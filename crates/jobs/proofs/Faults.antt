@@ -118,14 +118,14 @@ module _ (c : Call) where
       (inl ((in-table VariableRange (variable_count s) (VariableRange i)).1 (i, h, refl)))
 
   among : (r : Reason) → Broken g c r → r ∈ checks c
-  among ShortJob b = in-checks (inl (search (here)))
+  among ShortJob b = in-checks (inl (search (here, there)))
   among WrongMark b = in-checks (inl (search (here, there)))
   among TooMany b = in-checks (inl (search (here, there)))
   among WrongHeader b = in-checks (inl (search (here, there)))
   among (VariableRange i) b = of_rows (in_variables i b.0)
-  among (EquationVariables k) b = of_rows (in_row k b.0 (search (here)))
+  among (EquationVariables k) b = of_rows (in_row k b.0 (search (here, there)))
   among (EquationRange k) b = of_rows (in_row k b.0 (search (here, there)))
-  among ShortArea b = in-checks (inr (search (here)))
+  among ShortArea b = in-checks (inr (search (here, there)))
   among WrongArgument b = absurd b
   among ShortMap b = in-checks (inr (search (here, there)))
   among AmendmentsLength b = of_amendments ((among_passes a _).1 (of_length refl))
