@@ -10,16 +10,16 @@ ghost use Rattle.solver.specs.StateArrays.{label_in, run_in};
 ghost use Rattle.solver.specs.Labels.{Lowest};
 ghost use Rattle.planner.specs.Choice.{Members, NoneEmpty, AllWithin, FirstEmpty, number_at, number_in, objective_in};
 
+use jobs::Shape;
 use runs::Run;
 use solver::State;
 
-// The first of n variables that no number fits: the lowest of its component, since all variables of a component have equally many.
-pub(crate) fn first_empty(runs: &[Run; 256], n: usize) -> Option<u16>
-    requires { n ≤ 256 }
-    ensures { FirstEmpty runs.now n result }
+// The first variable that no number fits: the lowest of its component, since all variables of a component have equally many.
+pub(crate) fn first_empty(runs: &[Run; 256], shape: Shape) -> Option<u16>
+    ensures { FirstEmpty runs.now shape.variables result }
 {
     let mut empty = None;
-    for i in 0..n {
+    for i in 0..shape.variables {
         if runs[i].many == 0 {
             empty = Some(i as u16);
             break;

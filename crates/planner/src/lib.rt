@@ -144,7 +144,7 @@ fn solved(accepted: Accepted, area: &mut [u8], g: usize) -> Fit
     ensures fits { fit_verdict result ≡ fitting (job_accepted accepted.entry) }
     ensures area_after { area.new ≡ sheet_after (findings (job_accepted accepted.entry)) (fitting (job_accepted accepted.entry)) area.old }
 {
-    let n = accepted.job.job.shape.variables;
+    let shape = accepted.job.job.shape;
     let mut bounds = [Bounds { low: 0, high: 0 }; 256];
     let mut weights = [0; 256];
     variables::in_force(accepted, &mut bounds, &mut weights);
@@ -153,13 +153,13 @@ fn solved(accepted: Accepted, area: &mut [u8], g: usize) -> Fit
         runs: [Run::empty(); 256],
     };
     equations::families(accepted.job, &bounds, &mut state);
-    match choose::first_empty(&state.runs, n) {
+    match choose::first_empty(&state.runs, shape) {
         Some(variable) => Fit::NoFit(variable),
         None => {
             let families = Families {
                 state: &state,
                 weights: &weights,
-                variables: n,
+                variables: shape.variables,
                 components: g,
             };
             Fit::Planned(written(area, families))

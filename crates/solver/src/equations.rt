@@ -25,7 +25,7 @@ pub fn families(job: LawfulJob, bounds: &[Bounds; 256], state: &mut State)
 {
     let job = job.job;
     let mut components = Components::apart(job.shape.variables);
-    range::start(bounds, &mut state.runs, job.shape.variables);
+    range::start(bounds, &mut state.runs, job.shape);
     for k in 0..job.shape.equations {
         let e = job.equation(k).normal();
         let l = components.label(e.left);

@@ -1,11 +1,11 @@
 //! What every variable can be before any equation: the numbers within its bounds.
 
-ghost use Rattle.std.specs.Prelude.{◌≡◌, ◌≤◌};
+ghost use Rattle.std.specs.Prelude.{◌≡◌};
 ghost use Rattle.families.specs.Model.{interval};
 ghost use Rattle.jobs.specs.Bounds.{Bounded, BoundedBy};
 ghost use Rattle.solver.specs.VariableArrays.{Begins};
 
-use jobs::Bounds;
+use jobs::{Bounds, Shape};
 use runs::Run;
 
 // All numbers from low to high.
@@ -30,13 +30,12 @@ fn interval(b: Bounds) -> Run
     }
 }
 
-// The full range, met with the bounds of each of n variables.
-pub(crate) fn start(bounds: &[Bounds; 256], runs: &mut [Run; 256], n: usize)
-    requires few { n ≤ 256 }
-    requires bounded_by { BoundedBy bounds.now n }
-    ensures { Begins bounds.now n runs.new }
+// The full range, met with the bounds of each variable.
+pub(crate) fn start(bounds: &[Bounds; 256], runs: &mut [Run; 256], shape: Shape)
+    requires bounded_by { BoundedBy bounds.now shape.variables }
+    ensures { Begins bounds.now shape.variables runs.new }
 {
-    for i in 0..n {
+    for i in 0..shape.variables {
         runs[i] = Run::full().meet(interval(bounds[i]));
     }
 }
