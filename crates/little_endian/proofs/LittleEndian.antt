@@ -53,3 +53,15 @@ pub length-bytes_of : (k x : ℕ) → length (bytes_of k x) ≡ k
 unfolding bytes_of
 length-bytes_of zero x = refl
 length-bytes_of (suc k) x = ap suc (length-bytes_of k (x / 256))
+
+-- ---- as the code reads them: one byte more in front
+pub unsigned_none : (s : List ℕ) (at : ℕ) → 0 ≡ unsigned 0 s at
+unfolding unsigned
+unsigned_none s at = refl
+
+pub unsigned_more : (k : ℕ) (s : List ℕ) (at : ℕ) {x : ℕ} → x ≡ unsigned k s (at + 1) → 256 * x + get_or s at 0 ≡ unsigned (suc k) s at
+unfolding unsigned
+unsigned_more k s at e = rw (← e) (omega arith)
+
+pub below_more : (k : ℕ) {x b : ℕ} → x < 256 ^ k → b < 256 → 256 * x + b < 256 ^ suc k
+below_more k h l = rw (pow-succ' 256 k) (omega arith)

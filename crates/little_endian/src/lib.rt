@@ -1,8 +1,8 @@
 //! Little-endian numbers in bytes, read and written.
 #![tactic(auto)]
 
-ghost use Rattle.std.specs.Prelude.{◌≡◌, ◌+◌, ◌≤◌, length};
-ghost use Rattle.little_endian.specs.LittleEndian.{u16, u32, i32, i64};
+ghost use Rattle.std.specs.Prelude.{◌≡◌, ◌+◌, ◌≤◌, ◌<◌, ◌^◌, length};
+ghost use Rattle.little_endian.specs.LittleEndian.{unsigned, u16, u32, i32, i64};
 ghost use Rattle.little_endian.specs.Over.{over};
 
 // Four readers, since the width is the number's type: a trait for the four would be longer than they are.
@@ -50,6 +50,20 @@ pub fn i64_at(s: &[u8], at: usize) -> i64
         s[at + 6],
         s[at + 7],
     ])
+}
+
+/// The number in `width` bytes from a place on, for widths that no type has too: at most 8. The bytes lie within s.
+pub fn get(s: &[u8], at: usize, width: usize) -> u64
+    requires inside { at + width ≤ length s.now }
+    requires at_most_8 { width ≤ 8 }
+    ensures value { result ≡ unsigned width s.now at }
+    ensures upper_bound { result < 256 ^ width }
+{
+    let mut x = 0;
+    for i in 0..width {
+        x = 256 * x + u64::from(s[at + (width - 1 - i)]);
+    }
+    x
 }
 
 /// Bytes written over those of an area, from a place on: a mark, or a number as `to_le_bytes` gives it.

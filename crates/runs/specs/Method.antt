@@ -23,8 +23,8 @@ pub record Congruence : Type 0 where
   pub d : ℤ
 
 -- that of the struct, which is within reach
-abbrev pub numbers : code.Congruence → Congruence
-numbers s = record { u = s.u; v = s.v; d = s.d }
+abbrev pub congruence_by : code.Congruence → Congruence
+congruence_by s = record { u = s.u; v = s.v; d = s.d }
 
 -- every solution: those of a class, whose first number is the least that is not negative
 pub record AllSolutions (s : Congruence) (c : Class) : Type 0 where

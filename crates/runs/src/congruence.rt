@@ -18,12 +18,12 @@ impl Congruence {
     ghost use Rattle.std.specs.Prelude.{◌≡◌, pos};
     ghost use Rattle.ints.specs.Divides.{◌∣ℤ◌};
     ghost use Rattle.euclid.specs.Factor.{IsFactor};
-    ghost use Rattle.runs.specs.Method.{numbers, AllSolutions, Solves};
+    ghost use Rattle.runs.specs.Method.{congruence_by, AllSolutions, Solves};
 
     // Its solutions: none, or the numbers of one class, whose first is the least that is not negative. A run that a variable begins
     // with has stride 1, and so have most that are met.
     pub(crate) fn solve(self) -> Option<Class>
-        ensures { Solves (numbers self) result }
+        ensures { Solves (congruence_by self) result }
     {
         if self.u == 1 {
             Some(self.class_of_value())
@@ -35,7 +35,7 @@ impl Congruence {
     // With u = 1 the solutions are the numbers that are v modulo d.
     fn class_of_value(self) -> Class
         requires { self.u ≡ pos 1 }
-        ensures { AllSolutions (numbers self) result }
+        ensures { AllSolutions (congruence_by self) result }
     {
         Class {
             first: ints::remainder(self.v, self.d),
@@ -44,7 +44,7 @@ impl Congruence {
     }
 
     fn by_factor(self) -> Option<Class>
-        ensures { Solves (numbers self) result }
+        ensures { Solves (congruence_by self) result }
     {
         let f = Factor::of(self.u, self.d);
         if 0 < ints::remainder(self.v, f.gcd) {
@@ -59,7 +59,7 @@ impl Congruence {
     fn class_by(self, f: Factor) -> Class
         requires factor { IsFactor self.u self.d f.gcd f.cofactor }
         requires gcd { f.gcd ∣ℤ self.v }
-        ensures { AllSolutions (numbers self) result }
+        ensures { AllSolutions (congruence_by self) result }
     {
         let step = ints::quotient(self.d, f.gcd);
         let x = ints::remainder(f.cofactor, step);

@@ -5,7 +5,7 @@ ghost use Rattle.ints.specs.Within.{Within};
 ghost use Rattle.ints.specs.Division.{limit};
 ghost use Rattle.runs.specs.Run.{bound};
 ghost use Rattle.runs.specs.Workings.{CarryLimits, carry_limits};
-ghost use Rattle.runs.specs.Method.{numbers, upright, Carriable, partner_value, places_with_partner, rising};
+ghost use Rattle.runs.specs.Method.{congruence_by, upright, Carriable, partner_value, places_with_partner, rising};
 
 use crate::class::Class;
 use crate::congruence::Congruence;
@@ -42,7 +42,7 @@ impl Equation {
     // The places in a run of the numbers with a partner.
     pub(crate) fn places(self, q: Run) -> Congruence
         requires { Carriable self q }
-        ensures { numbers result ≡ places_with_partner self q }
+        ensures { congruence_by result ≡ places_with_partner self q }
     {
         Congruence {
             u: self.b * q.stride(),

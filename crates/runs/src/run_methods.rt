@@ -4,7 +4,7 @@ ghost use Rattle.std.specs.Prelude.{◌≡◌, ◌≤◌};
 ghost use Rattle.runs.specs.Run.{OneForm, is_one_form, full, empty};
 ghost use Rattle.runs.specs.Search.{meet, carry};
 ghost use Rattle.runs.specs.Workings.{CarryLimits};
-ghost use Rattle.runs.specs.Method.{numbers, places_in, stride, span, numbers_at, Places};
+ghost use Rattle.runs.specs.Method.{congruence_by, places_in, stride, span, numbers_at, Places};
 
 use crate::class::{Class, Interval};
 use crate::congruence::Congruence;
@@ -100,7 +100,7 @@ impl Run {
         requires not_empty { 1 ≤ self.many }
         requires other_one_form { OneForm other }
         requires other_not_empty { 1 ≤ other.many }
-        ensures { numbers result ≡ places_in self other }
+        ensures { congruence_by result ≡ places_in self other }
     {
         Congruence {
             u: self.stride(),

@@ -11,7 +11,7 @@ use Rattle.ints.proofs.{ℤ, pos, neg_ℤ, ◌*ℤ◌, [], ◌∷◌, arith, lin
 use Rattle.ints.proofs.Floor.{mod_range}
 use Rattle.ints.proofs.Divides.{divides-add, divides-mul, divides_by, mod-Congruent}
 use Rattle.ints.proofs.Answers.{answered}
-use Rattle.runs.specs.Method.{Congruence, InReach, AllSolutions, numbers}
+use Rattle.runs.specs.Method.{Congruence, InReach, AllSolutions, congruence_by}
 use Rattle.runs.proofs.CongruenceSolutions.{limits}
 use Rattle.runs.proofs.congruence.Congruence.class_of_value.Goals as goal
 
@@ -32,7 +32,7 @@ module _ (s : Congruence) (reach : InReach s.u s.v s.d) (unit : s.u ≡ pos 1) w
   every = record { low = (mod_range s.v s.d reach.above).0; high = (mod_range s.v s.d reach.above).1; all = same }
 
 pub returns : goal.returns
-returns c = let x = numbers c.args.self in
+returns c = let x = congruence_by c.args.self in
     let reach = c.args.self.in_reach in
     let r = c.remainder.result in
     let fits-d : SFits w64 x.d = lin (x.d ∷ []) (reach.above & reach.modulus) (search signed depth 20) (omega arith) in
