@@ -42,7 +42,7 @@ impl Amendment {
     fn in_range(self) -> bool
         ensures { (result ≡ true) ↔ Bounded (amendment_bounds self) }
     {
-        ints::is_within(1000000000, self.low) && ints::is_within(1000000000, self.high)
+        self.bounds().in_range()
     }
 
     /// The bounds that replace those of the variable's row.
@@ -206,14 +206,18 @@ impl Accepted<'_, '_> {
     pub fn overlay(self, bounds: &mut [Bounds; 256])
         ensures { Overlaid (amendments_of self.entry.amendments.bytes.now) bounds.old bounds.new }
     {
-        overlay(self.amendments.bytes, bounds, self.job.job.shape.variables);
+        overlay(
+            self.amendments.bytes,
+            bounds,
+            self.lawful.job.shape.variables,
+        );
     }
 }
 
 /// Puts the bounds of each sheet over those of its variable, row by row.
 // Over bytes and a number, and not over `Accepted`, which would ask more of a caller.
 pub fn overlay(amendments: &[u8], bounds: &mut [Bounds; 256], n: usize)
-    requires n_bound { n ≤ 256 }
+    requires few { n ≤ 256 }
     requires referenced { Referenced n (amendments_of amendments.now) (amendment_count amendments.now) }
     ensures { Overlaid (amendments_of amendments.now) bounds.old bounds.new }
 {

@@ -63,7 +63,7 @@ impl<'a> Job<'a> {
 // Are the offsets, the length field, the zero bytes and the real length as the numbers of rows make them? It asks for a header, as the two
 // readers do, in a clause: what it says yes to is a type, `Job`, and one for the header alone would be left again at once.
 fn is_laid_out(job: &[u8], shape: Shape) -> bool
-    requires in_bounds { 24 ≤ length job.now }
+    requires has_header { 24 ≤ length job.now }
     requires variables_counted { shape.variables ≡ variable_count job.now }
     requires equations_counted { shape.equations ≡ equation_count job.now }
     ensures { (result ≡ true) ↔ Header job.now }

@@ -89,9 +89,9 @@ pub struct LawfulJob<'a> {
 /// What the check of a job and its amendments lets through.
 #[derive(Clone, Copy)]
 pub struct Accepted<'j, 'a> {
-    pub job: LawfulJob<'j>,
+    pub lawful: LawfulJob<'j>,
     pub amendments: Amendments<'a>,
-    ghost faultless: { Faultless (lending_nothing job.job.bytes.now amendments.bytes.now) },
+    ghost faultless: { Faultless (lending_nothing lawful.job.bytes.now amendments.bytes.now) },
 }
 
 /// The job check: accepted, or refused with the first failing check of document 01's table, reasons 1 to 7. Takes any bytes.
@@ -133,16 +133,16 @@ impl<'j, 'a> Accepted<'j, 'a> {
     /// over all sheets before the next.
     #[tactic(auto, using(crate::proofs::AmendmentChecks::job_fault, crate::proofs::AmendmentChecks::length_fault))]
     pub fn of(job: &'j [u8], amendments: &'a [u8]) -> Result<Accepted<'j, 'a>, Reason>
-        ensures job_opened { IfOk result (λ x. x.job.job.bytes.now ≡ job.now) }
+        ensures job_opened { IfOk result (λ x. x.lawful.job.bytes.now ≡ job.now) }
         ensures amendments_opened { IfOk result (λ x. x.amendments.bytes.now ≡ amendments.now) }
         ensures first_fault { fault_of result ≡ first_broken (lending_nothing job.now amendments.now) }
     {
-        let job = LawfulJob::of(job)?;
+        let lawful = LawfulJob::of(job)?;
         let amendments = Amendments::open(amendments)?;
         amendments.check_zeros()?;
-        amendments.check_references(job.job.shape)?;
-        amendments.check_twice(job.job.shape)?;
+        amendments.check_references(lawful.job.shape)?;
+        amendments.check_twice(lawful.job.shape)?;
         amendments.check_ranges()?;
-        Ok(Accepted { job, amendments })
+        Ok(Accepted { lawful, amendments })
     }
 }

@@ -7,7 +7,7 @@ ghost use Rattle.reasons.specs.declared.Reason.TheVariants.{VariableRange};
 ghost use Rattle.reasons.specs.Answer.{fault_of};
 ghost use Rattle.jobs.specs.Call.{lending_nothing};
 ghost use Rattle.jobs.specs.Job.{job_of, variable_count, equation_count, variable, equation, form};
-ghost use Rattle.jobs.specs.Bounds.{variable_bounds};
+ghost use Rattle.jobs.specs.Bounds.{Bounded, variable_bounds};
 ghost use Rattle.jobs.specs.ReasonTable.{InRange, Misnamed, Coefficients, equation_checks};
 ghost use Rattle.jobs.specs.FirstRow.{FirstRow};
 ghost use Rattle.jobs.specs.Decide.{first_where};
@@ -84,9 +84,7 @@ impl Variable {
     fn in_range(self) -> bool
         ensures { (result ≡ true) ↔ InRange self }
     {
-        ints::is_within(1000000000, self.low)
-            && ints::is_within(1000000000, self.high)
-            && ints::is_within(1000000, self.weight)
+        self.bounds().in_range() && ints::is_within(1000000, self.weight)
     }
 
     /// The bounds in its row, which an amendment may replace.
@@ -95,6 +93,15 @@ impl Variable {
     {
         let Variable { low, high, .. } = self;
         Bounds { low, high }
+    }
+}
+
+impl Bounds {
+    // Do both lie in their range?
+    pub(crate) fn in_range(self) -> bool
+        ensures { (result ≡ true) ↔ Bounded self }
+    {
+        ints::is_within(1000000000, self.low) && ints::is_within(1000000000, self.high)
     }
 }
 

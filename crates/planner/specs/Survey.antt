@@ -17,10 +17,10 @@ use Rattle.planner.specs.Lending.{lent_in}
 
 -- what the check accepts: the job as amended, and the call of it that lends these areas
 abbrev pub job_accepted : Accepted → Job
-job_accepted x = amended x.job.job.bytes.now x.amendments.bytes.now
+job_accepted x = amended x.lawful.job.bytes.now x.amendments.bytes.now
 
 abbrev pub call_accepted : Accepted → Areas → Call
-call_accepted x lent = call_of x.job.job.bytes.now x.amendments.bytes.now (lent_in lent)
+call_accepted x lent = call_of x.lawful.job.bytes.now x.amendments.bytes.now (lent_in lent)
 
 -- of the areas as lent the map's bytes are `after` now. An area is too short, for this reason
 pub record TooShort (x : Accepted) (lent : Areas) (after : List ℕ) (r : Reason) : Type 0 where

@@ -115,14 +115,14 @@ fn surveyed(accepted: Accepted, areas: &mut Areas) -> Result<usize, Reason>
     ensures sheet { areas.new.sheet.now ≡ areas.old.sheet.now }
     ensures surveyed { Surveyed accepted.entry areas.old areas.new.map.now result }
 {
-    let shape = accepted.job.job.shape;
+    let shape = accepted.lawful.job.shape;
     let mut structure = Structure {
         labels: [0; 256],
         degrees: [0; 256],
         homes: [0; 1024],
         kinds: [Kind::Joins; 1024],
     };
-    structure::of_job(accepted.job, &mut structure);
+    structure::of_job(accepted.lawful, &mut structure);
     let g = components::count(&structure.labels, shape.variables);
     if areas.sheet.len() < sheet::length(shape, g) {
         return Err(Reason::ShortArea);
@@ -144,7 +144,7 @@ fn solved(accepted: Accepted, area: &mut [u8], g: usize) -> Fit
     ensures fits { fit_verdict result ≡ fitting (job_accepted accepted.entry) }
     ensures area_after { area.new ≡ sheet_after (findings (job_accepted accepted.entry)) (fitting (job_accepted accepted.entry)) area.old }
 {
-    let shape = accepted.job.job.shape;
+    let shape = accepted.lawful.job.shape;
     let mut bounds = [Bounds { low: 0, high: 0 }; 256];
     let mut weights = [0; 256];
     variables::in_force(accepted, &mut bounds, &mut weights);
@@ -152,7 +152,7 @@ fn solved(accepted: Accepted, area: &mut [u8], g: usize) -> Fit
         labels: [0; 256],
         runs: [Run::empty(); 256],
     };
-    equations::families(accepted.job, &bounds, &mut state);
+    equations::families(accepted.lawful, &bounds, &mut state);
     match choose::first_empty(&state.runs, shape) {
         Some(variable) => Fit::NoFit(variable),
         None => {

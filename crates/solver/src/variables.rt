@@ -10,10 +10,10 @@ use jobs::{Accepted, Bounds};
 /// amendments in place of their own.
 // Two arrays: `equations::families` takes the bounds alone, which may come from elsewhere.
 pub fn in_force(accepted: Accepted, bounds: &mut [Bounds; 256], weights: &mut [i64; 256])
-    ensures bounds_of { BoundsOf (amended accepted.entry.job.job.bytes.now accepted.entry.amendments.bytes.now) accepted.entry.job.job.shape.variables bounds.new }
-    ensures weights_of { WeightsOf (amended accepted.entry.job.job.bytes.now accepted.entry.amendments.bytes.now) accepted.entry.job.job.shape.variables weights.new }
+    ensures bounds_of { BoundsOf (amended accepted.entry.lawful.job.bytes.now accepted.entry.amendments.bytes.now) accepted.entry.lawful.job.shape.variables bounds.new }
+    ensures weights_of { WeightsOf (amended accepted.entry.lawful.job.bytes.now accepted.entry.amendments.bytes.now) accepted.entry.lawful.job.shape.variables weights.new }
 {
-    let job = accepted.job.job;
+    let job = accepted.lawful.job;
     for i in 0..job.shape.variables {
         let v = job.variable(i);
         bounds[i] = v.bounds();

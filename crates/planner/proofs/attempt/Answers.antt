@@ -40,7 +40,7 @@ settled (Planned w) = refl
 settled (NoFit l) = refl
 
 -- the call, by what the check accepts of it
-as_called : (x : Accepted) (lent : Areas) {s a : List ℕ} → x.job.job.bytes.now ≡ s → x.amendments.bytes.now ≡ a → call_accepted x lent ≡ call_of s a (lent_in lent)
+as_called : (x : Accepted) (lent : Areas) {s a : List ℕ} → x.lawful.job.bytes.now ≡ s → x.amendments.bytes.now ≡ a → call_accepted x lent ≡ call_of s a (lent_in lent)
 as_called x lent p q = ap₂ (λ s a. call_of s a (lent_in lent)) p q
 
 pub returns-in_err-accepted-clause-plans : goal.returns-in_err-accepted-clause-plans

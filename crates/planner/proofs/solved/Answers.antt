@@ -42,7 +42,7 @@ use Rattle.planner.proofs.solved.Goals as goal
 -- of what the check accepts
 module _ (x : Accepted) where
   abbrev job : List ℕ
-  job = x.job.job.bytes.now
+  job = x.lawful.job.bytes.now
 
   abbrev amendments : List ℕ
   amendments = x.amendments.bytes.now
@@ -54,7 +54,7 @@ module _ (x : Accepted) where
   j = job_accepted x
 
   abbrev n : ℕ
-  n = x.job.job.shape.variables
+  n = x.lawful.job.shape.variables
 
   accepted : first_broken call ≡ none
   accepted = none_broken call x.faultless
@@ -63,7 +63,7 @@ module _ (x : Accepted) where
   lawful = lawful_amended call accepted
 
   n_rows : n ≡ length (job_of job).variables
-  n_rows = vars job n x.job.job.shape.equations x.job.job.variables_counted x.job.job.equations_counted
+  n_rows = vars job n x.lawful.job.shape.equations x.lawful.job.variables_counted x.lawful.job.equations_counted
 
   n_all : n ≡ length j.variables
   n_all = n_rows ∙ sym (amended-length job amendments)
@@ -137,7 +137,7 @@ returns-in-Some c = let x = c.args.accepted in
 
 pub invariant_of-families : goal.invariant_of-families
 invariant_of-families c = let x = c.args.accepted in record {
-  few = x.job.job.shape.few_variables;
+  few = x.lawful.job.shape.few_variables;
   weights_small = weighed x c.in_force.new.bounds c.in_force.ensures.bounds_of c.in_force.new.weights c.in_force.ensures.weights_of c.families.new.state c.families.ensures;
   lowest = low x c.in_force.new.bounds c.in_force.ensures.bounds_of c.in_force.new.weights c.in_force.ensures.weights_of c.families.new.state c.families.ensures;
   members = of_members x c.in_force.new.bounds c.in_force.ensures.bounds_of c.in_force.new.weights c.in_force.ensures.weights_of c.families.new.state c.families.ensures;

@@ -52,19 +52,19 @@ module _ (x : Accepted) where
   j = job_accepted x
 
   abbrev s : List ℕ
-  s = x.job.job.bytes.now
+  s = x.lawful.job.bytes.now
 
   abbrev n : ℕ
-  n = x.job.job.shape.variables
+  n = x.lawful.job.shape.variables
 
   abbrev m : ℕ
-  m = x.job.job.shape.equations
+  m = x.lawful.job.shape.equations
 
   p : n ≡ variable_count s
-  p = x.job.job.variables_counted
+  p = x.lawful.job.variables_counted
 
   q : m ≡ equation_count s
-  q = x.job.job.equations_counted
+  q = x.lawful.job.equations_counted
 
   accepted : first_broken (lending_nothing s x.amendments.bytes.now) ≡ none
   accepted = none_broken (lending_nothing s x.amendments.bytes.now) x.faultless
@@ -79,24 +79,24 @@ module _ (x : Accepted) where
   map_whole = let e : length j.equations ≡ length (job_of s).equations = ap length same_equations in omega (arith, vars s n m p q, ties s n m p q, same_length, e)
 
   -- with its structure t and the number g of its components
-  module _ (t : Structure) (f : Structured (job_of x.job.job.bytes.now) x.job.job.shape.equations x.job.job.shape.variables t) (g : ℕ) (e : g ≡ length (leads_by (label_in t.labels) x.job.job.shape.variables)) where
+  module _ (t : Structure) (f : Structured (job_of x.lawful.job.bytes.now) x.lawful.job.shape.equations x.lawful.job.shape.variables t) (g : ℕ) (e : g ≡ length (leads_by (label_in t.labels) x.lawful.job.shape.variables)) where
     g_is : g ≡ component_count j
     g_is = counted s n m p q t.labels f.labels g e ∙ sym (count_same j (job_of s) same_equations same_length)
 
     g_small : g ≤ 256
-    g_small = omega (arith, x.job.job.shape.few_variables, g_is, vars s n m p q, same_length, length_leads j)
+    g_small = omega (arith, x.lawful.job.shape.few_variables, g_is, vars s n m p q, same_length, length_leads j)
 
     sheet_whole : 24 + 16 * n + 16 * g ≡ sheet_length j
     sheet_whole = omega (arith, vars s n m p q, same_length, g_is)
 
     low : Lowest t.labels n
-    low = labels s n m p q x.job.lawful t f
+    low = labels s n m p q x.lawful.lawful t f
 
     below : AllBelow n t.homes m
-    below = homes s n m p q x.job.lawful t f
+    below = homes s n m p q x.lawful.lawful t f
 
     map_as_amended : map_of (structure_in t n m) ≡ map_of (structure j)
-    map_as_amended = map_is s n m p q x.job.lawful t f ∙ sym (map_same j (job_of s) same_equations same_length)
+    map_as_amended = map_is s n m p q x.lawful.lawful t f ∙ sym (map_same j (job_of s) same_equations same_length)
 
     module _ (lent : Areas) where
       abbrev call : Call
@@ -105,7 +105,7 @@ module _ (x : Accepted) where
       sheet_short : length lent.sheet.now < 24 + 16 * n + 16 * g → first_broken call ≡ some ShortArea
       sheet_short h = fault_short call accepted (omega (arith, h, sheet_whole))
 
-      module _ (long : 24 + 16 * x.job.job.shape.variables + 16 * g ≤ length lent.sheet.now) where
+      module _ (long : 24 + 16 * x.lawful.job.shape.variables + 16 * g ≤ length lent.sheet.now) where
         room : sheet_length j ≤ length lent.sheet.now
         room = omega (arith, long, sheet_whole)
 
