@@ -21,6 +21,16 @@ pub struct Amendments<'a> {
     ghost counted: { count ≡ amendment_count bytes.now },
 }
 
+// Sheets of which the first `count` keep reason 12's rule for the variables of a job of this shape: so their numbers rise.
+#[derive(Clone, Copy)]
+struct Rising<'a> {
+    amendments: Amendments<'a>,
+    shape: Shape,
+    count: usize,
+    ghost within: { count ≤ amendments.count },
+    ghost referenced: { Referenced shape.variables (amendments_of amendments.bytes.now) count },
+}
+
 impl Amendment {
     // The sheet in row t.
     #[tactic(auto, using(crate::proofs::AmendmentsInForce::amendment_of))]
@@ -90,7 +100,12 @@ impl<'a> Amendments<'a> {
         'rows: {
             for t in 0..self.count {
                 let a = Amendment::read(self.bytes, t);
-                if self.is_misreferenced(shape, t, a, before) {
+                let rising = Rising {
+                    amendments: self,
+                    shape,
+                    count: t,
+                };
+                if rising.is_misreferenced(a, before) {
                     break 'rows Err(Reason::AmendmentReference(t as u16));
                 }
                 before = a.serial;
@@ -99,60 +114,17 @@ impl<'a> Amendments<'a> {
         }
     }
 
-    // Does the sheet a in row t, behind one with the number `before`, break that rule? Those before it keep it.
-    fn is_misreferenced(self, shape: Shape, t: usize, a: Amendment, before: u32) -> bool
-        requires in_reach { t < self.count }
-        requires sheet_read { a ≡ amendment (amendments_of self.bytes.now) t }
-        requires serial_read { before ≡ serial_before (amendments_of self.bytes.now) t }
-        requires referenced { Referenced shape.variables (amendments_of self.bytes.now) t }
-        ensures { (result ≡ true) ↔ Misreferenced shape.variables (amendments_of self.entry.bytes.now) t }
-    {
-        a.serial <= before
-            || shape.variables <= a.variable
-            || a.supersedes != 0 && !self.supersedes_earlier(shape, t, a)
-    }
-
-    // Is what the sheet a in row t supersedes an earlier one for its variable? Those before it have numbers that rise.
-    fn supersedes_earlier(self, shape: Shape, t: usize, a: Amendment) -> bool
-        requires in_reach { t < self.count }
-        requires sheet_read { a ≡ amendment (amendments_of self.bytes.now) t }
-        requires referenced { Referenced shape.variables (amendments_of self.bytes.now) t }
-        ensures { (result ≡ true) ↔ SupersedesEarlier (amendments_of self.entry.bytes.now) t }
-    {
-        let u = self.place(shape, a.supersedes, t);
-        if u == t {
-            return false;
-        }
-        let b = Amendment::read(self.bytes, u);
-        b.serial == a.supersedes && b.variable == a.variable
-    }
-
-    // Where a number stands among those of the first k sheets, or would stand: they rise, so each step halves what is left. The sheets are
-    // bytes, which no search of the library's goes through.
-    fn place(self, shape: Shape, serial: u32, k: usize) -> usize
-        requires in_reach { k ≤ self.count }
-        requires referenced { Referenced shape.variables (amendments_of self.bytes.now) k }
-        ensures { PlaceOf (amendments_of self.entry.bytes.now) serial k result }
-    {
-        let mut low = 0;
-        let mut high = k;
-        while low < high {
-            let middle = low + (high - low) / 2;
-            if Amendment::read(self.bytes, middle).serial < serial {
-                low = middle + 1;
-            } else {
-                high = middle;
-            }
-        }
-        low
-    }
-
     // The first sheet in force after another in force for its variable: reason 13.
     pub(crate) fn check_twice(self, shape: Shape) -> Result<(), Reason>
         requires referenced { Referenced shape.variables (amendments_of self.bytes.now) self.count }
         ensures { FirstRow AmendmentTwice (Twice (amendments_of self.entry.bytes.now)) self.entry.count result }
     {
-        let superseded = self.superseded(shape);
+        let rising = Rising {
+            amendments: self,
+            shape,
+            count: self.count,
+        };
+        let superseded = rising.superseded();
         let mut taken = [false; 256];
         'rows: {
             for t in 0..self.count {
@@ -166,22 +138,6 @@ impl<'a> Amendments<'a> {
             }
             Ok(())
         }
-    }
-
-    // Which sheets are superseded.
-    fn superseded(self, shape: Shape) -> [bool; 512]
-        requires referenced { Referenced shape.variables (amendments_of self.bytes.now) self.count }
-        ensures { Marks (amendments_of self.entry.bytes.now) result }
-    {
-        let mut superseded = [false; 512];
-        for t in 0..self.count {
-            let serial = Amendment::read(self.bytes, t).supersedes;
-            if serial != 0 {
-                let u = self.place(shape, serial, self.count);
-                superseded[u] = true;
-            }
-        }
-        superseded
     }
 
     // The first sheet whose bounds are out of range, in force or not: reason 5.
@@ -199,6 +155,68 @@ impl<'a> Amendments<'a> {
     }
 }
 
+impl Rising<'_> {
+    // Does the sheet a that comes next, behind one with the number `before`, break the rule?
+    fn is_misreferenced(self, a: Amendment, before: u32) -> bool
+        requires in_reach { self.count < self.amendments.count }
+        requires sheet_read { a ≡ amendment (amendments_of self.amendments.bytes.now) self.count }
+        requires serial_read { before ≡ serial_before (amendments_of self.amendments.bytes.now) self.count }
+        ensures { (result ≡ true) ↔ Misreferenced self.entry.shape.variables (amendments_of self.entry.amendments.bytes.now) self.entry.count }
+    {
+        a.serial <= before
+            || self.shape.variables <= a.variable
+            || a.supersedes != 0 && !self.supersedes_earlier(a)
+    }
+
+    // Is what the sheet a that comes next supersedes an earlier one for its variable?
+    fn supersedes_earlier(self, a: Amendment) -> bool
+        requires in_reach { self.count < self.amendments.count }
+        requires sheet_read { a ≡ amendment (amendments_of self.amendments.bytes.now) self.count }
+        ensures { (result ≡ true) ↔ SupersedesEarlier (amendments_of self.entry.amendments.bytes.now) self.entry.count }
+    {
+        let u = self.place(a.supersedes);
+        if u == self.count {
+            return false;
+        }
+        let b = Amendment::read(self.amendments.bytes, u);
+        b.serial == a.supersedes && b.variable == a.variable
+    }
+
+    // Where a number stands among theirs, or would stand: they rise, so each step halves what is left. The sheets are bytes, which no
+    // search of the library's goes through.
+    fn place(self, serial: u32) -> usize
+        ensures { PlaceOf (amendments_of self.entry.amendments.bytes.now) serial self.entry.count result }
+    {
+        let mut low = 0;
+        let mut high = self.count;
+        while low < high {
+            let middle = low + (high - low) / 2;
+            if Amendment::read(self.amendments.bytes, middle).serial < serial {
+                low = middle + 1;
+            } else {
+                high = middle;
+            }
+        }
+        low
+    }
+
+    // Which sheets are superseded, where all of them keep the rule.
+    fn superseded(self) -> [bool; 512]
+        requires all { self.count ≡ self.amendments.count }
+        ensures { Marks (amendments_of self.entry.amendments.bytes.now) result }
+    {
+        let mut superseded = [false; 512];
+        for t in 0..self.count {
+            let serial = Amendment::read(self.amendments.bytes, t).supersedes;
+            if serial != 0 {
+                let u = self.place(serial);
+                superseded[u] = true;
+            }
+        }
+        superseded
+    }
+}
+
 impl Accepted<'_, '_> {
     /// Puts the bounds of each sheet over those of its variable. Of sheets that the check accepts the last for a variable is the one in
     /// force.
@@ -206,11 +224,8 @@ impl Accepted<'_, '_> {
     pub fn overlay(self, bounds: &mut [Bounds; 256])
         ensures { Overlaid (amendments_of self.entry.amendments.bytes.now) bounds.old bounds.new }
     {
-        overlay(
-            self.amendments.bytes,
-            bounds,
-            self.lawful.job.shape.variables,
-        );
+        let n = self.lawful.job.shape.variables;
+        overlay(self.amendments.bytes, bounds, n);
     }
 }
 

@@ -1,7 +1,7 @@
 -- `superseded` meets its contract: after each sheet those are marked that it or one before it supersedes.
 use Rattle.jobs.specs.Amendments.{amendments_of}
 use Rattle.jobs.proofs.SheetMarks.{Marked}
-use Rattle.jobs.proofs.amendments.Amendments.superseded.Given as goal
+use Rattle.jobs.proofs.amendments.Rising.superseded.Given as goal
 
 abbrev pub invariant-loop-t : goal.invariant-loop-t
-invariant-loop-t l = Marked (amendments_of l.self.bytes.now) l.self.count l.t l.superseded
+invariant-loop-t l = Marked (amendments_of l.self.amendments.bytes.now) l.self.count l.t l.superseded
