@@ -114,7 +114,8 @@ impl<'a> Amendments<'a> {
         }
     }
 
-    // The first sheet in force after another in force for its variable: reason 13.
+    // The first sheet in force after another in force for its variable: reason 13. It asks in a clause that reason 12's rule is kept: a type
+    // that `check_references` gave would hold the same sheets once more, and need a clause that they are these.
     pub(crate) fn check_twice(self, shape: Shape) -> Result<(), Reason>
         requires referenced { Referenced shape.variables (amendments_of self.bytes.now) self.count }
         ensures { FirstRow AmendmentTwice (Twice (amendments_of self.entry.bytes.now)) self.entry.count result }
@@ -200,7 +201,8 @@ impl Rising<'_> {
         low
     }
 
-    // Which sheets are superseded, where all of them keep the rule.
+    // Which sheets are superseded, where all of them keep the rule. The 512 bytes go by value, as an array does that a
+    // function makes itself: lent, it would have to be cleared first, and its contract say so.
     fn superseded(self) -> [bool; 512]
         requires all { self.count ≡ self.amendments.count }
         ensures { Marks (amendments_of self.entry.amendments.bytes.now) result }

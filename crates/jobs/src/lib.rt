@@ -1,6 +1,6 @@
 //! Jobs and their amendments: their bytes, what they mean, what is demanded of a plan, and the job check.
 //!
-//! Read `specs/Lib.antt` for the definitions, then this file, then the modules from the bottom up.
+//! Read `specs/Lib.antt` for the definitions, then this file, then the modules in the order in which it names them.
 #![tactic(auto)]
 
 ghost use Rattle.std.specs.Prelude.{◌≡◌, ◌≤◌, IfOk};
@@ -33,6 +33,7 @@ pub struct Variable {
 }
 
 /// An equation's row, document 01's tie: a·left + b·right = c, where left and right are numbers of variables.
+// A record that the definitions read; its a, b and c alone are a `runs::Equation` (`form`).
 #[derive(Clone, Copy)]
 pub struct Equation {
     pub left: usize,
@@ -43,6 +44,7 @@ pub struct Equation {
 }
 
 /// A variable's bounds. They come to the planner apart from the job's bytes, so that the same job can be planned with others.
+// A record that the definitions read, and not `Interval` of `runs`, which is private to that crate.
 #[derive(Clone, Copy)]
 pub struct Bounds {
     pub low: i64,
@@ -51,6 +53,7 @@ pub struct Bounds {
 
 /// An amendment sheet: its number, that of the sheet it supersedes or 0, the variable it is for, and the bounds that replace those in the
 /// variable's row while it is in force.
+// The definitions of specs/Amendments read this record, so what it supersedes is 0 or a number, as in the bytes, and no Option.
 #[derive(Clone, Copy)]
 pub struct Amendment {
     pub serial: u32,

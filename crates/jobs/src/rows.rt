@@ -1,4 +1,6 @@
 //! The rows of a job, read from its bytes and tested.
+//!
+//! A pass over rows, here and in `amendments`, is a loop that is left with `break` at the first failing row: document 01 wants that form.
 
 ghost use Rattle.std.specs.Prelude.{◌≡◌, true, ◌↔◌, ◌<◌};
 ghost use mathlib.Core.List.{[], flat_map};
@@ -121,7 +123,7 @@ impl Equation {
         n <= self.left || n <= self.right
     }
 
-    // Are a, b and c within their limits?
+    // Are a, b and c within their limits? A row's a and b may be 0, so this is not `runs::Equation::in_limits`.
     fn in_limits(self) -> bool
         ensures { (result ≡ true) ↔ Coefficients self }
     {
