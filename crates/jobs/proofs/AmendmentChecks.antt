@@ -22,8 +22,8 @@ use Rattle.jobs.proofs.FirstRow.{pass_fault}
 use Rattle.jobs.proofs.Faults.{pass, from_twice, from_references, from_zeros, fault_of_job, fault_past_job, Faultless-iff}
 
 -- what the job check refuses is refused with any amendments
-pub job_fault : (s a : List ℕ) {r : Reason} → some r ≡ first_broken (lending_nothing s []) → some r ≡ first_broken (lending_nothing s a)
-job_fault s a {r} e = sym (fault_of_job (lending_nothing s a) r (sym e))
+pub refused_with_any : (s a : List ℕ) {r : Reason} → some r ≡ first_broken (lending_nothing s []) → some r ≡ first_broken (lending_nothing s a)
+refused_with_any s a {r} e = sym (fault_of_job (lending_nothing s a) r (sym e))
 
 module _ (s a : List ℕ) (job_sound : none ≡ first_broken (lending_nothing s [])) where
   abbrev call : Call

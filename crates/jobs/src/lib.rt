@@ -134,7 +134,7 @@ impl<'a> LawfulJob<'a> {
 impl<'j, 'a> Accepted<'j, 'a> {
     /// The job and the amendments that these bytes are, or the first failing check: the job's reasons, and then 11, 12, 13 and 5, each
     /// over all sheets before the next.
-    #[tactic(auto, using(crate::proofs::AmendmentChecks::job_fault, crate::proofs::AmendmentChecks::length_fault))]
+    #[tactic(auto, using(crate::proofs::AmendmentChecks::refused_with_any, crate::proofs::AmendmentChecks::length_fault))]
     pub fn of(job: &'j [u8], amendments: &'a [u8]) -> Result<Accepted<'j, 'a>, Reason>
         ensures job_opened { IfOk result (λ x. x.lawful.job.bytes.now ≡ job.now) }
         ensures amendments_opened { IfOk result (λ x. x.amendments.bytes.now ≡ amendments.now) }
