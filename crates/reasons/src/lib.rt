@@ -9,7 +9,7 @@ ghost use Rattle.reasons.specs.Numbers.{number_of, row_of};
 
 /// The reasons of document 01's table, in its order, and those that document 02 adds. A case that the table reports with a row carries that row;
 /// two cases may share a number. What the papers call a count is a variable here.
-#[derive(Clone, Copy)]
+#[derive(Clone, Copy, PartialEq, Eq)]
 pub enum Reason {
     /// The job has fewer bytes than its header.
     ShortJob,
@@ -65,7 +65,7 @@ impl Reason {
         }
     }
 
-    /// The row that is reported with the reason, 0 where the table has none.
+    /// The row that is reported with the reason, 0 where the table has none: a number and no Option, as the table and C report it.
     pub fn row(self) -> u16
         ensures { result ≡ row_of self }
     {

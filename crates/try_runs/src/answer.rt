@@ -4,19 +4,10 @@ use reasons::Reason;
 use runs::Run;
 use std::io;
 
-/// What is printed of an answer, and compared: first, step, how many; or the reason and the row.
-pub type Parts = Result<(i64, i64, u32), (u16, u16)>;
-
-pub(crate) fn parts(answer: Result<Run, Reason>) -> Parts {
-    answer
-        .map(|run| (run.first, run.step, run.many))
-        .map_err(|r| (r.number(), r.row()))
-}
-
 pub(crate) fn show(rt: &impl Print, answer: Result<Run, Reason>) -> io::Result<()> {
-    match parts(answer) {
-        Ok((first, step, many)) => println!(rt; " is {first} {step} {many}"),
-        Err((reason, row)) => println!(rt; " refused {reason} row {row}"),
+    match answer {
+        Ok(run) => println!(rt; " is {} {} {}", run.first, run.step, run.many),
+        Err(r) => println!(rt; " refused {} row {}", r.number(), r.row()),
     }
 }
 
@@ -26,7 +17,7 @@ pub(crate) fn agree(
     x: Result<Run, Reason>,
     y: Result<Run, Reason>,
 ) -> io::Result<bool> {
-    if parts(x) == parts(y) {
+    if x == y {
         return Ok(true);
     }
     print!(rt; "disagree:")?;
