@@ -23,15 +23,23 @@ pub const KINDS: [Kind; 4] = [Kind::Shared, Kind::Any, Kind::Close, Kind::Spoile
 // The range, counted from its low end.
 const WIDTH: u32 = 2000000000;
 
+/// What one thing is drawn from, a list or a run of it.
+#[derive(Clone, Copy)]
+struct Source {
+    kind: Kind,
+    seed: u64,
+}
+
 pub(crate) fn list(alloc: Global, seed: u64, kind: Kind, n: u32) -> Result<Vec<Run>, AllocError> {
-    let spoiled = up_to(seed, 1, n.saturating_sub(1));
-    let x = up_to(seed, 2, WIDTH);
+    let source = Source { kind, seed };
+    let spoiled = source.up_to(1, n.saturating_sub(1));
+    let x = source.up_to(2, WIDTH);
     let mut runs = Vec::new(alloc);
     for k in 0..n {
-        let own = pseudo_random::mixed(seed.wrapping_add(10 + u64::from(k)));
-        let run = lawful(own, kind, x);
+        let own = source.part(k);
+        let run = own.lawful(x);
         runs.push(if kind == Kind::Spoiled && k == spoiled {
-            spoil(own, run)
+            own.spoil(run)
         } else {
             run
         })?;
@@ -39,27 +47,68 @@ pub(crate) fn list(alloc: Global, seed: u64, kind: Kind, n: u32) -> Result<Vec<R
     Ok(runs)
 }
 
-fn lawful(seed: u64, kind: Kind, x: u32) -> Run
-    requires { x ≤ 2000000000 }
-{
-    match up_to(seed, 0, 31) {
-        0 => Run {
-            first: 0,
-            step: 0,
-            many: 0,
-        },
-        1 => through(0, 1, 0, WIDTH),
-        _ => {
-            let y = if kind == Kind::Close {
-                (x + up_to(seed, 1, 2)) % (WIDTH + 1)
-            } else {
-                x
-            };
-            let step = step(seed, kind);
-            let down = up_to(seed, 4, y / step);
-            let up = up_to(seed, 5, (WIDTH - y) / step);
-            through(y, step, down, up)
+impl Source {
+    // That of run k.
+    fn part(self, k: u32) -> Source {
+        let seed = pseudo_random::mixed(self.seed.wrapping_add(10 + u64::from(k)));
+        Source { seed, ..self }
+    }
+
+    fn lawful(self, x: u32) -> Run
+        requires { x ≤ 2000000000 }
+    {
+        match self.up_to(0, 31) {
+            0 => Run::empty(),
+            1 => through(0, 1, 0, WIDTH),
+            _ => {
+                let y = if self.kind == Kind::Close {
+                    (x + self.up_to(1, 2)) % (WIDTH + 1)
+                } else {
+                    x
+                };
+                let step = self.step();
+                let down = self.up_to(4, y / step);
+                let up = self.up_to(5, (WIDTH - y) / step);
+                through(y, step, down, up)
+            }
         }
+    }
+
+    // From 1 up.
+    fn step(self) -> u32
+        ensures positive { 1 ≤ result }
+        ensures bounded { result ≤ 2000000000 }
+    {
+        let sizes = if self.kind == Kind::Shared { 4 } else { 8 };
+        let most = match self.up_to(2, sizes - 1) {
+            0 => 1,
+            1 => 6,
+            2 => 30,
+            3 => 210,
+            4 => 10000,
+            5 => 1000000,
+            6 => 100000000,
+            _ => 2000000000,
+        };
+        1 + self.up_to(3, most - 1)
+    }
+
+    // Out of the range, falling, or too long; and so not in its one form, if it was empty or a single number too.
+    fn spoil(self, run: Run) -> Run {
+        let mut spoilt = run;
+        match self.up_to(6, 2) {
+            0 => spoilt.first = run.first.wrapping_add(i64::from(WIDTH) + 1),
+            1 => spoilt.step = !run.step,
+            _ => spoilt.many = run.many.wrapping_add(WIDTH + 1),
+        }
+        spoilt
+    }
+
+    // A number from 0 on.
+    fn up_to(self, place: u64, most: u32) -> u32
+        ensures { result ≤ most }
+    {
+        pseudo_random::up_to(self.seed, place, most)
     }
 }
 
@@ -73,42 +122,4 @@ fn through(x: u32, step: u32, down: u32, up: u32) -> Run
         step: if others == 0 { 0 } else { i64::from(step) },
         many: others.saturating_add(1),
     }
-}
-
-// From 1 up.
-fn step(seed: u64, kind: Kind) -> u32
-    ensures positive { 1 ≤ result }
-    ensures bounded { result ≤ 2000000000 }
-{
-    let sizes = if kind == Kind::Shared { 4 } else { 8 };
-    let most = match up_to(seed, 2, sizes - 1) {
-        0 => 1,
-        1 => 6,
-        2 => 30,
-        3 => 210,
-        4 => 10000,
-        5 => 1000000,
-        6 => 100000000,
-        _ => 2000000000,
-    };
-    1 + up_to(seed, 3, most - 1)
-}
-
-// Out of the range, falling, or too long; and so not in its one form, if it was empty or a single number too.
-fn spoil(seed: u64, run: Run) -> Run {
-    let mut spoilt = run;
-    match up_to(seed, 6, 2) {
-        0 => spoilt.first = run.first.wrapping_add(i64::from(WIDTH) + 1),
-        1 => spoilt.step = !run.step,
-        _ => spoilt.many = run.many.wrapping_add(WIDTH + 1),
-    }
-    spoilt
-}
-
-// A number from 0 on.
-fn up_to(seed: u64, place: u64, most: u32) -> u32
-    ensures { result ≤ most }
-{
-    let x = pseudo_random::mixed(seed.wrapping_add(place)) / 65536;
-    (x % (u64::from(most) + 1)) as u32
 }
