@@ -91,6 +91,7 @@ impl Factor {
         }
     }
 
+    // One line at each end of the loop, where a literal would be five.
     fn new(gcd: i64, cofactor: i64, divisions: u32) -> Factor
         ensures { result ≡ record { gcd = gcd; cofactor = cofactor; divisions = divisions } }
     {

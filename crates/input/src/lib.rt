@@ -107,7 +107,7 @@ impl Numbers {
         self.closed.len()
     }
 
-    /// Number i, or 0 where there is none.
+    /// Number i, or 0 where there is none: a number and no Option, since the texts may leave numbers out.
     pub fn get(&self, i: usize) -> i64 {
         self.closed.get(i).copied().unwrap_or(0)
     }

@@ -14,6 +14,8 @@ use crate::{Equation, Run};
 // ±1,000,000,000
 const BOUND: u64 = 1000000000;
 
+// How many is widened by `as` here and in `partners`: with `i64::from` their proofs did not close.
+
 // That a run is in its one form, or is not empty, is a clause here and no fact of the type: `meeting` and `carrying` take runs of any
 // kind and refuse the others, and a second type for the same three numbers would be no plainer.
 impl Run {

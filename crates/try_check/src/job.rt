@@ -45,7 +45,7 @@ impl Paper {
         Ok(())
     }
 
-    // Bytes at a place.
+    // Bytes at a place. Each by itself and no copy_from_slice, which would ask that all of them lie on the paper.
     fn put(&mut self, at: usize, bytes: &[u8]) {
         for (to, from) in self.bytes.iter_mut().skip(at).zip(bytes) {
             *to = *from;

@@ -7,16 +7,17 @@ use std::io;
 
 pub(crate) fn run(rt: &impl Print, alloc: Global, text: &[u8]) -> io::Result<()> {
     let mut paper = Paper::new(alloc)?;
+    // By two places and no split: a brace without its other has to be passed over.
     let mut printed = 0;
-    let mut numbers = 0;
+    let mut opened = 0;
     for (i, x) in text.iter().enumerate() {
         match *x {
             b'{' => {
                 rt.write_all(&text[printed..i])?;
-                numbers = i + 1;
+                opened = i + 1;
             }
             b'}' => {
-                answer(rt, alloc, &mut paper, &Numbers::of(&text[numbers..i]))?;
+                answer(rt, alloc, &mut paper, &Numbers::of(&text[opened..i]))?;
                 printed = i + 1;
             }
             _ => {}

@@ -49,8 +49,8 @@ fn show(rt: &impl Print, n: i64, d: i64) -> io::Result<()> {
 // How many of the pairs agree of each dividend from -50 to 50 and each divisor from -12 to 12 but 0.
 fn small_pairs(rt: &impl Print) -> io::Result<u64> {
     let mut agree: u64 = 0;
-    for n in -50..51i64 {
-        for d in -12..13i64 {
+    for n in -50..=50i64 {
+        for d in -12..=12i64 {
             if d != 0 && agrees(rt, n, d)? {
                 agree += 1;
             }

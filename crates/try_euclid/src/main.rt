@@ -122,6 +122,7 @@ fn by_subtraction(a: u32, b: u32) -> u32
     let mut divisor = b;
     let mut rest = left(a, b);
     let mut made: u32 = 1;
+    // A while: nothing is counted up to, what is left falls.
     while rest > 1 {
         (divisor, rest) = (rest, left(divisor, rest));
         made = made.saturating_add(1);
@@ -135,6 +136,7 @@ fn left(a: u32, b: u32) -> u32
     ensures { result < b }
 {
     let mut r = a;
+    // A while, for the same reason; `%` would say it at once, but is what is compared here.
     while r >= b {
         r -= b;
     }

@@ -89,9 +89,9 @@ impl SmallRun {
 
 fn small_runs(alloc: Global) -> Result<Vec<SmallRun>, AllocError> {
     let mut runs = Vec::new(alloc);
-    for many in 0..14 {
-        for step in 0..13 {
-            for first in -6..7 {
+    for many in 0..=13 {
+        for step in 0..=12 {
+            for first in -6..=6 {
                 let run = SmallRun { first, step, many };
                 if run.is_run() {
                     runs.push(run)?;
@@ -126,15 +126,16 @@ impl SmallEquation {
     }
 }
 
+// A step wider each: of products in 64 bits the check did not see that their sum fits.
 fn times(x: i8, y: i8) -> i16 {
     i16::from(x) * i16::from(y)
 }
 
 fn small_equations(alloc: Global) -> Result<Vec<SmallEquation>, AllocError> {
     let mut equations = Vec::new(alloc);
-    for c in -9..10 {
-        for b in -4..5 {
-            for a in -4..5 {
+    for c in -9..=9 {
+        for b in -4..=4 {
+            for a in -4..=4 {
                 if a != 0 && b != 0 {
                     equations.push(SmallEquation { a, b, c })?;
                 }
