@@ -1,10 +1,7 @@
 //! The structs that C is handed, made of what the planner and the workings answer; and theirs, made of what C hands over.
 
 ghost use Rattle.std.specs.Prelude.{◌≡◌};
-ghost use Rattle.reasons.specs.Answer.{working_answer_of};
-ghost use Rattle.jobs.specs.Faults.{answer_of};
-ghost use Rattle.planner.specs.Outcome.{verdict_of};
-ghost use Rattle.host.specs.Answers.{lent_by, outcome_for, checked_for, quotient_for, working_for};
+ghost use Rattle.host.specs.Answers.{lent_by};
 
 use crate::{FitChecked, FitOutcome, FitQuotient, FitRun, FitWorking};
 use planner::{Lent, Outcome};
@@ -56,63 +53,83 @@ impl From<Reason> for FitChecked {
     }
 }
 
-pub(crate) fn outcome_for(outcome: Outcome) -> FitOutcome
-    ensures { result ≡ outcome_for (verdict_of outcome) }
-{
-    match outcome {
-        Outcome::Planned(worth) => FitOutcome {
-            kind: 1,
-            count: 0,
-            reason: 0,
-            row: 0,
-            worth,
-        },
-        Outcome::NoFit(count) => FitOutcome {
-            kind: 2,
-            count: u32::from(count),
-            reason: 0,
-            row: 0,
-            worth: 0,
-        },
-        Outcome::Refused(reason) => {
-            let FitChecked { reason, row } = FitChecked::from(reason);
-            FitOutcome {
-                kind: 3,
+impl From<Outcome> for FitOutcome {
+    ghost use Rattle.planner.specs.Outcome.{verdict_of};
+    ghost use Rattle.host.specs.Answers.{outcome_for};
+
+    ghost from_gives = { λ outcome result. result ≡ outcome_for (verdict_of outcome) };
+
+    fn from(outcome: Outcome) -> FitOutcome {
+        match outcome {
+            Outcome::Planned(worth) => FitOutcome {
+                kind: 1,
                 count: 0,
-                reason,
-                row,
+                reason: 0,
+                row: 0,
+                worth,
+            },
+            Outcome::NoFit(count) => FitOutcome {
+                kind: 2,
+                count: u32::from(count),
+                reason: 0,
+                row: 0,
                 worth: 0,
+            },
+            Outcome::Refused(reason) => {
+                let FitChecked { reason, row } = FitChecked::from(reason);
+                FitOutcome {
+                    kind: 3,
+                    count: 0,
+                    reason,
+                    row,
+                    worth: 0,
+                }
             }
         }
     }
 }
 
 // Why an answer is refused: reason 0 where it is not.
-pub(crate) fn checked_for<T>(answer: &Result<T, Reason>) -> FitChecked
-    ensures { result ≡ checked_for (answer_of answer.now) }
-{
-    match answer {
-        Ok(_) => FitChecked { reason: 0, row: 0 },
-        Err(reason) => FitChecked::from(*reason),
+impl<T> From<&Result<T, Reason>> for FitChecked {
+    ghost use Rattle.jobs.specs.Faults.{answer_of};
+    ghost use Rattle.host.specs.Answers.{checked_for};
+
+    ghost from_gives = { λ answer result. result ≡ checked_for (answer_of answer.now) };
+
+    fn from(answer: &Result<T, Reason>) -> FitChecked {
+        match answer {
+            Ok(_) => FitChecked { reason: 0, row: 0 },
+            Err(reason) => FitChecked::from(*reason),
+        }
     }
 }
 
-pub(crate) fn quotient_for(division: Result<i64, Reason>) -> FitQuotient
-    ensures { result ≡ quotient_for (working_answer_of division) }
-{
-    let FitChecked { reason, row } = checked_for(&division);
-    let quotient = division.unwrap_or(0);
-    FitQuotient {
-        reason,
-        row,
-        quotient,
+impl From<Result<i64, Reason>> for FitQuotient {
+    ghost use Rattle.reasons.specs.Answer.{working_answer_of};
+    ghost use Rattle.host.specs.Answers.{quotient_for};
+
+    ghost from_gives = { λ division result. result ≡ quotient_for (working_answer_of division) };
+
+    fn from(division: Result<i64, Reason>) -> FitQuotient {
+        let FitChecked { reason, row } = FitChecked::from(&division);
+        let quotient = division.unwrap_or(0);
+        FitQuotient {
+            reason,
+            row,
+            quotient,
+        }
     }
 }
 
-pub(crate) fn working_for(working: Result<Run, Reason>) -> FitWorking
-    ensures { result ≡ working_for (working_answer_of working) }
-{
-    let FitChecked { reason, row } = checked_for(&working);
-    let run = FitRun::from(working.unwrap_or(Run::empty()));
-    FitWorking { reason, row, run }
+impl From<Result<Run, Reason>> for FitWorking {
+    ghost use Rattle.reasons.specs.Answer.{working_answer_of};
+    ghost use Rattle.host.specs.Answers.{working_for};
+
+    ghost from_gives = { λ working result. result ≡ working_for (working_answer_of working) };
+
+    fn from(working: Result<Run, Reason>) -> FitWorking {
+        let FitChecked { reason, row } = FitChecked::from(&working);
+        let run = FitRun::from(working.unwrap_or(Run::empty()));
+        FitWorking { reason, row, run }
+    }
 }

@@ -85,8 +85,7 @@ pub fn fit_plan_v2(
         map: &mut *map,
         lent: answers::lent_by(lent),
     };
-    let outcome = planner::plan(job, amendments, &mut areas);
-    answers::outcome_for(outcome)
+    planner::plan(job, amendments, &mut areas).into()
 }
 
 /// The job check: as the planner through reason 7.
@@ -94,7 +93,7 @@ pub fn fit_plan_v2(
 pub fn fit_check(job: &[u8]) -> FitChecked
     ensures { result ≡ checked_for (checked job.now []) }
 {
-    answers::checked_for(&jobs::check(job))
+    FitChecked::from(&jobs::check(job))
 }
 
 /// The check of a job and its amendments: as the planner through the amendments' reasons, 11, 12, 13 and 5.
@@ -102,26 +101,26 @@ pub fn fit_check(job: &[u8]) -> FitChecked
 pub fn fit_check_amendments(job: &[u8], amendments: &[u8]) -> FitChecked
     ensures { result ≡ checked_for (checked job.now amendments.now) }
 {
-    answers::checked_for(&jobs::check_amended(job, amendments))
+    FitChecked::from(&jobs::check_amended(job, amendments))
 }
 
 /// n / d rounded towards the lower whole number.
 pub fn fit_divide(n: i64, d: i64) -> FitQuotient
     ensures { result ≡ quotient_for (division n d) }
 {
-    answers::quotient_for(ints::divide(n, d))
+    ints::divide(n, d).into()
 }
 
 /// The run of the numbers in both runs.
 pub fn fit_meet(a: FitRun, b: FitRun) -> FitWorking
     ensures { result ≡ working_for (meeting (run_for a) (run_for b)) }
 {
-    answers::working_for(runs::meeting(a.into(), b.into()))
+    runs::meeting(a.into(), b.into()).into()
 }
 
 /// The run of all p that have a partner q in the run, with a·p + b·q = c.
 pub fn fit_carry(a: i64, b: i64, c: i64, q: FitRun) -> FitWorking
     ensures { result ≡ working_for (carrying (equation_for a b c) (run_for q)) }
 {
-    answers::working_for(runs::carrying(Equation { a, b, c }, q.into()))
+    runs::carrying(Equation { a, b, c }, q.into()).into()
 }
