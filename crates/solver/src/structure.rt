@@ -19,6 +19,17 @@ pub enum Kind {
     Fixes = 3,
 }
 
+/// Its number in the map.
+impl From<Kind> for u16 {
+    ghost use Rattle.solver.specs.Structured.{number_of};
+
+    ghost from_gives = { λ kind result. result ≡ number_of kind };
+
+    fn from(kind: Kind) -> u16 {
+        kind as u16
+    }
+}
+
 impl Kind {
     // The kind of an equation between variables of these components.
     fn of(binary: bool, l: u16, r: u16) -> Kind
@@ -70,5 +81,5 @@ pub fn of_job(job: LawfulJob, found: &mut Structure)
 fn added(left: usize, right: usize) -> u16
     ensures { result ≡ added left right }
 {
-    if left == right { 0 } else { 1 }
+    u16::from(left != right)
 }
