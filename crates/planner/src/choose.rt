@@ -15,6 +15,7 @@ use runs::Run;
 use solver::State;
 
 // The first variable that no number fits: the lowest of its component, since all variables of a component have equally many.
+// Document 01 wants the loop left with `break`, so this is no `find`.
 pub(crate) fn first_empty(runs: &[Run; 256], shape: Shape) -> Option<u16>
     ensures { FirstEmpty runs.now shape.variables result }
 {

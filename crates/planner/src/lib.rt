@@ -32,6 +32,8 @@ use solver::{State, components, equations, structure, variables};
 
 // the choice in each component
 mod choose;
+// what the headers of both begin with
+mod header;
 // the sheet
 mod sheet;
 // the map
@@ -48,21 +50,22 @@ pub enum Outcome {
     Refused(Reason),
 }
 
-// What the plan of a job comes to that is not refused.
+// What the plan of a job comes to that is not refused. No fit is an answer and no error, so this is no `Result`: `?` would hand it on as
+// a refusal.
 #[derive(Clone, Copy)]
 enum Fit {
     Planned(i64),
     NoFit(u16),
 }
 
-/// Which of the areas that a call may lend it does lend. The answer area is always lent.
+/// Does a call lend the map area? The answer area is always lent.
 #[derive(Clone, Copy)]
 pub struct Lent {
     pub map: bool,
 }
 
-/// The areas of a planning call: the answer area, for the sheet, and the map area, which is any slice where it is not lent. The flags stand
-/// beside the slices: where a field was an `Option` of a slice, a caller's proof knew of it no more than its length.
+/// The areas of a planning call: the answer area, for the sheet, and the map area, which is any slice where it is not lent. The flag stands
+/// beside the slice: where the field was an `Option` of a slice, a caller's proof knew of it no more than its length.
 #[derive(Drop)]
 pub struct Areas<'s, 'm> {
     pub sheet: &'s mut [u8],
@@ -104,12 +107,11 @@ fn attempt(job: &[u8], amendments: &[u8], areas: &mut Areas) -> Result<Fit, Reas
 {
     let accepted = Accepted::of(job, amendments)?;
     let g = surveyed(accepted, areas)?;
-    let sheet = &mut *areas.sheet;
-    Ok(solved(accepted, sheet, g))
+    Ok(solved(accepted, areas.sheet, g))
 }
 
-// The number of components of the job, where the areas are long enough for it; the map is then written, if its area is lent. The arrays
-// of the job's structure end here, so that their stack serves the families too.
+// Writes the map, if its area is lent, and gives the number of components, where the areas are long enough for the job. The arrays of
+// the job's structure end here, so that their stack serves the families too.
 fn surveyed(accepted: Accepted, areas: &mut Areas) -> Result<usize, Reason>
     ensures same { SameBorrows areas.old areas.new }
     ensures sheet { areas.new.sheet.now ≡ areas.old.sheet.now }
@@ -131,8 +133,7 @@ fn surveyed(accepted: Accepted, areas: &mut Areas) -> Result<usize, Reason>
         return Err(Reason::ShortMap);
     }
     if areas.lent.map {
-        let map = &mut *areas.map;
-        map::write(map, &structure, shape, g);
+        map::write(areas.map, &structure, shape, g);
     }
     Ok(g)
 }

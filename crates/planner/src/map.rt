@@ -6,12 +6,12 @@ ghost use Rattle.jobs.specs.MapLayout.{map_header, map_row, map_of};
 ghost use Rattle.families.specs.ModelFindings.{leads_by};
 ghost use Rattle.solver.specs.StateArrays.{label_in};
 ghost use Rattle.solver.specs.Labels.{Lowest};
-ghost use Rattle.solver.specs.Structured.{number_of};
 ghost use Rattle.planner.specs.Mapping.{AllBelow, structure_in};
 
+use crate::header;
 use jobs::Shape;
 use solver::components;
-use solver::structure::{Kind, Structure};
+use solver::structure::Structure;
 
 // The mark of a map.
 const MARK: [u8; 4] = *b"MAP1";
@@ -40,15 +40,8 @@ pub(crate) fn write(map: &mut [u8], structure: &Structure, shape: Shape, g: usiz
     let rows = 24 + 4 * shape.variables;
     for k in 0..shape.equations {
         let group = numbers[structure.homes[k] as usize];
-        row(map, rows + 4 * k, group, number(structure.kinds[k]));
+        row(map, rows + 4 * k, group, u16::from(structure.kinds[k]));
     }
-}
-
-// The number of a kind in the map.
-fn number(kind: Kind) -> u16
-    ensures { result ≡ number_of kind }
-{
-    kind as u16
 }
 
 fn header(map: &mut [u8], shape: Shape, g: usize)
@@ -56,11 +49,10 @@ fn header(map: &mut [u8], shape: Shape, g: usize)
     requires room { 24 ≤ length map.old }
     ensures { map.new ≡ over 0 (map_header shape.variables shape.equations g) map.old }
 {
-    little_endian::put(map, 0, &MARK);
-    little_endian::put(map, 4, &(shape.variables as u16).to_le_bytes());
-    little_endian::put(map, 6, &(shape.equations as u16).to_le_bytes());
-    little_endian::put(map, 8, &24_u32.to_le_bytes());
-    little_endian::put(map, 12, &(24 + 4 * shape.variables as u32).to_le_bytes());
+    let variables = shape.variables as u16;
+    let equations = shape.equations as u16;
+    let rows = 24 + 4 * shape.variables as u32;
+    header::begin(map, &MARK, variables, equations, rows);
     little_endian::put(map, 16, &(g as u16).to_le_bytes());
     little_endian::put(map, 18, &[0; 6]);
 }

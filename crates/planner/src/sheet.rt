@@ -13,6 +13,7 @@ ghost use Rattle.planner.specs.Choice.{chosen_in};
 ghost use Rattle.planner.specs.Chosen.{findings_of};
 
 use crate::choose::{self, Chosen, Families};
+use crate::header;
 use jobs::Shape;
 use runs::Run;
 use solver::components;
@@ -50,11 +51,8 @@ fn header(area: &mut [u8], chosen: Chosen)
         components,
         ..
     } = chosen.families;
-    little_endian::put(area, 0, &MARK);
-    little_endian::put(area, 4, &(variables as u16).to_le_bytes());
-    little_endian::put(area, 6, &(components as u16).to_le_bytes());
-    little_endian::put(area, 8, &24_u32.to_le_bytes());
-    little_endian::put(area, 12, &(24 + 16 * variables as u32).to_le_bytes());
+    let rows = 24 + 16 * variables as u32;
+    header::begin(area, &MARK, variables as u16, components as u16, rows);
     little_endian::put(area, 16, &chosen.worth.to_le_bytes());
 }
 
@@ -99,7 +97,8 @@ fn group(area: &mut [u8], at: usize, many: u32, slope: i64)
     little_endian::put(area, at + 8, &slope.to_le_bytes());
 }
 
-// The rows of the groups, into the part of the answer area that they fill.
+// The rows of the groups, into the part of the answer area that they fill. Only the lowest variable of a group has a row, so the row's
+// place is counted and not zipped with the variables.
 fn group_rows(part: &mut [u8], chosen: Chosen)
     requires { 16 * length (leads_by (label_in chosen.families.state.now.labels) chosen.families.variables) ≤ length part.old }
     ensures { part.new ≡ over 0 (sheet_groups (run_in chosen.entry.families.state.now.runs) (chosen_in chosen.entry.families.state.now.runs chosen.entry.slopes.now) (number chosen.entry.slopes.now) (leads_by (label_in chosen.entry.families.state.now.labels) chosen.entry.families.variables)) part.old }

@@ -63,7 +63,7 @@ loop-k-preserved c = let t = c.args.structure.now in
     let n = c.args.shape.variables in
     let k = c.loop-k.k in
     more (of_equation t n) (kind_in t.kinds) (24 + 4 * n) c.loop-i.map k _ _ (omega (arith, c.requires.room)) c.loop-k.invariant
-    (over_same (24 + 4 * n + 4 * k) c.loop-k.map _ (ap₂ map_row (c.numbers-numbers.ensures.at (at t.homes k) (c.requires.all_below.at k (omega arith))) c.number.ensures) c.row-in-loop-k.ensures)
+    (over_same (24 + 4 * n + 4 * k) c.loop-k.map _ (ap₂ map_row (c.numbers-numbers.ensures.at (at t.homes k) (c.requires.all_below.at k (omega arith))) c.from.ensures) c.row-in-loop-k.ensures)
 
 pub returns : goal.returns
 returns c = let x = c.args in
