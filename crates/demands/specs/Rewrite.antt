@@ -7,6 +7,11 @@ is_planned (planned w) = true
 is_planned (no_fit l) = false
 is_planned (refused reason row) = false
 
+abbrev pub is_unfit : Verdict → Bool
+is_unfit (planned w) = false
+is_unfit (no_fit l) = true
+is_unfit (refused reason row) = false
+
 -- it is the sheet of one count
 abbrev pub is_single : Verdict → List ℕ → Bool
 is_single v s = is_planned v && eqb (get_or s 4 0) 1

@@ -20,6 +20,7 @@ pub fn plan(job: &[u8], amendments: &[u8], areas: &mut Areas) -> Outcome
 fn plan_rewritten(job: &[u8], amendments: &[u8], areas: &mut Areas) -> Outcome
     ensures { CannotBeBettered (call_of job.now amendments.now (lent_in areas.old)) (verdict_of result) (lent_in areas.new) }
 {
+    // Used by an edit alone, which writes it in place of what stood there.
     let low = rewrite::get(job, 36);
     let outcome = planner::plan(job, amendments, areas);
     let area = &mut *areas.sheet;

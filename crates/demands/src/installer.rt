@@ -39,6 +39,7 @@ fn plan_second(
     ensures { GivesFits (call_of job.now amendments.now (lent_in areas.old)) (verdict_of result) (lent_in areas.new) }
 {
     planner::plan(first, amendments, other);
+    // Named, so that an edit finds this line: the call alone stands here more than once.
     let last = planner::plan(job, amendments, areas);
     last
 }
@@ -47,8 +48,7 @@ fn plan_second(
 fn plan_passed_on(job: &[u8], amendments: &[u8], areas: &mut Areas) -> Outcome
     ensures { GivesFits (call_of job.now amendments.now (lent_in areas.old)) (verdict_of result) (lent_in areas.new) }
 {
-    let outcome = planner::plan(job, amendments, areas);
-    match outcome {
+    match planner::plan(job, amendments, areas) {
         Outcome::Planned(worth) => Outcome::Planned(worth),
         Outcome::NoFit(variable) => Outcome::NoFit(variable),
         Outcome::Refused(reason) => Outcome::Refused(reason),
@@ -73,6 +73,7 @@ fn plan_single(job: &[u8], amendments: &[u8], areas: &mut Areas) -> Outcome
 fn plan_apart(job: &[u8], amendments: &[u8], areas: &mut Areas) -> Outcome
     ensures { GivesFits (call_of job.now amendments.now (lent_in areas.old)) (verdict_of result) (lent_in areas.new) }
 {
+    // Used by an edit alone, which writes it in place of what stood there.
     let low = rewrite::get(job, 36);
     let outcome = planner::plan(job, amendments, areas);
     let area = &mut *areas.sheet;

@@ -2,7 +2,7 @@
 
 ghost use Rattle.std.specs.Prelude.{◌≡◌, cond, get_or, set};
 ghost use Rattle.planner.specs.Outcome.{verdict_of};
-ghost use Rattle.demands.specs.Rewrite.{is_planned, is_single, is_apart};
+ghost use Rattle.demands.specs.Rewrite.{is_planned, is_unfit, is_single, is_apart};
 
 use planner::Outcome;
 
@@ -13,7 +13,8 @@ pub(crate) fn get(s: &[u8], at: usize) -> u8
     s.get(at).copied().unwrap_or(0)
 }
 
-// A byte written at a place, if it is told to; past the end nothing is.
+// A byte written at a place, if it is told to; past the end nothing is. The test is an operand and no `if` of the caller's, so that an edit
+// changes an operand.
 pub(crate) fn put(area: &mut [u8], told: bool, at: usize, x: u8)
     ensures { area.new ≡ cond told (set area.old at x) area.old }
 {
@@ -30,7 +31,9 @@ pub(crate) fn is_planned(outcome: Outcome) -> bool
 }
 
 // Is there no fit?
-pub(crate) fn is_unfit(outcome: Outcome) -> bool {
+pub(crate) fn is_unfit(outcome: Outcome) -> bool
+    ensures { result ≡ is_unfit (verdict_of outcome) }
+{
     matches!(outcome, Outcome::NoFit(_))
 }
 

@@ -9,6 +9,8 @@ ghost use Rattle.families.specs.ModelFindings.{leads_by, component_by};
 
 /// The components of so many variables, while equations are taken in: each variable is labelled with the lowest of its component, and
 /// the variables of a component lie from there to the one that `lasts` has at the lowest.
+// A component's lowest variable is a plain number and `Leads` stands in the contracts: it leads in one `Components`, which each join
+// changes, and no type says so.
 // Two arrays rather than one of pairs: `State` and `Structure` take over the labels alone.
 #[derive(Drop)]
 pub(crate) struct Components {
@@ -21,7 +23,8 @@ pub(crate) struct Components {
 }
 
 impl Components {
-    // Each variable in a component of its own.
+    // Each variable in a component of its own. `std::array::from_fn` was tried: it tells of the items only what each call of the closure gives,
+    // and the proof did not come from there to `Apart`.
     pub(crate) fn apart(variables: usize) -> Components
         requires { variables ≤ 256 }
         ensures so_many { result.variables ≡ variables }
@@ -89,7 +92,7 @@ fn rename(labels: &mut [u16; 256], low: u16, high: u16, end: usize)
 // What follows is over the labels of n variables, and no method of `Components`: the labels are those of a `State` or a `Structure`, which
 // have no spans, and a type for them would ask more of a caller.
 
-/// How many components n variables are in: 01's g.
+/// How many components n variables are in: 01's g. `filter(..).count()` was tried: what the library says of it did not reach `leads_by`.
 #[tactic(auto, using(crate::proofs::LowestVariables::leads_none, crate::proofs::LowestVariables::leads_counted))]
 pub fn count(labels: &[u16; 256], n: usize) -> usize
     requires { n ≤ 256 }
