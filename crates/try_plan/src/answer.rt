@@ -11,7 +11,21 @@ pub enum Answer {
     Planned(i64),
     /// The lowest variable of the first group without a fit.
     NoFit(u16),
+    /// By its numbers, and no `Reason`: a line of the table says only these two, and two of its cases can have both the same.
     Refused { reason: u16, row: u16 },
+}
+
+impl From<Outcome> for Answer {
+    fn from(outcome: Outcome) -> Answer {
+        match outcome {
+            Outcome::Planned(worth) => Answer::Planned(worth),
+            Outcome::NoFit(variable) => Answer::NoFit(variable),
+            Outcome::Refused(reason) => Answer::Refused {
+                reason: reason.number(),
+                row: reason.row(),
+            },
+        }
+    }
 }
 
 /// The planner's own.
@@ -21,17 +35,11 @@ pub(crate) fn of(job: &[u8], sheet: &mut [u8]) -> Answer {
         map: &mut [],
         lent: Lent { map: false },
     };
-    match planner::plan(job, &[], &mut areas) {
-        Outcome::Planned(worth) => Answer::Planned(worth),
-        Outcome::NoFit(variable) => Answer::NoFit(variable),
-        Outcome::Refused(reason) => Answer::Refused {
-            reason: reason.number(),
-            row: reason.row(),
-        },
-    }
+    Answer::from(planner::plan(job, &[], &mut areas))
 }
 
 /// What is expected of a job: the answer, the length of its sheet, and the sheet, which counts only where the job is planned.
+/// It stands beside the answer, and not in `Planned`, since answers are compared, and the planner's has no sheet of its own.
 #[derive(Drop)]
 pub struct Expected {
     pub answer: Answer,

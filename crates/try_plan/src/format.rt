@@ -79,6 +79,7 @@ pub(crate) fn sheet(alloc: Global, n: u16, g: u16, worth: i64) -> Result<Vec<u8>
     Ok(sheet)
 }
 
+/// The search shares no code with the planner, so this stands here again.
 pub(crate) fn sheet_length(n: u16, g: u16) -> u32 {
     24 + 16 * u32::from(n) + 16 * u32::from(g)
 }
@@ -110,8 +111,8 @@ impl Entry {
     }
 }
 
-// Bytes at a place. What would lie past the end is left out.
-fn put(sheet: &mut [u8], at: usize, bytes: &[u8]) {
+/// Puts bytes at a place. What would lie past the end is left out.
+pub(crate) fn put(sheet: &mut [u8], at: usize, bytes: &[u8]) {
     for (to, from) in sheet.iter_mut().skip(at).zip(bytes) {
         *to = *from;
     }

@@ -38,7 +38,7 @@ fn line(rt: &impl Print, alloc: Global, family: &mut Tally, written: &[u8]) -> i
 // Behind the bar two numbers are a reason and a row, and one says how many forms of the job there are, against the plain search. Without
 // a bar it is the plain search that says what is expected.
 fn job(rt: &impl Print, alloc: Global, family: &mut Tally, read: &Line) -> io::Result<()> {
-    let job = line::job(alloc, read)?;
+    let job = read.job(alloc)?;
     let expected = match read.expected() {
         1 => return forms(rt, alloc, family, read, job),
         2 => Expected::refused(
@@ -46,7 +46,7 @@ fn job(rt: &impl Print, alloc: Global, family: &mut Tally, read: &Line) -> io::R
             line::word(read.after(b'|', 0)),
             line::word(read.after(b'|', 1)),
         ),
-        _ if read.has(b'|') => line::expect(alloc, read)?,
+        _ if read.has(b'|') => read.expect(alloc)?,
         _ => searched(alloc, job.as_slice())?,
     };
     let right = trial::is_right(rt, alloc, job.as_slice(), &expected)?;
@@ -65,10 +65,10 @@ fn forms(
     read: &Line,
     mut job: Vec<u8>,
 ) -> io::Result<()> {
-    let last = line::equation_count(read).checked_sub(1);
+    let last = read.equation_count().checked_sub(1);
     for code in 0..read.after(b'|', 0).cast_unsigned() {
         if let Some(k) = last {
-            form(code, line::equation(read, k)).replace_last(&mut job)?;
+            form(code, read.equation(k)).replace_last(&mut job)?;
         }
         let expected = searched(alloc, job.as_slice())?;
         let right = trial::is_right(rt, alloc, job.as_slice(), &expected)?;

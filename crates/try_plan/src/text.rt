@@ -55,20 +55,26 @@ impl Line {
         self.before(b'>').saturating_sub(self.before(b'|'))
     }
 
+    /// Is it a job of many variables (`wide`)?
+    pub(crate) fn is_wide(&self) -> bool {
+        self.has(b'*')
+    }
+
     /// Number i of the bounds.
     pub(crate) fn bound(&self, i: usize) -> i64 {
-        self.get(if self.has(b'*') {
+        self.get(if self.is_wide() {
             i.saturating_add(1)
         } else {
             i
         })
     }
 
-    /// Number i, and number i behind a mark; 0 where there is none.
+    /// Number i; 0 where there is none.
     pub(crate) fn get(&self, i: usize) -> i64 {
         self.numbers.get(i)
     }
 
+    /// Number i behind a mark; 0 where there is none, or no such mark.
     pub(crate) fn after(&self, mark: u8, i: usize) -> i64 {
         match self.marks.get(&mark) {
             Some(before) => self.get(before.saturating_add(i)),

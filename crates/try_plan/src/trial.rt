@@ -1,12 +1,15 @@
 //! A job in three areas: the outcome, and every byte of the area and some behind it.
 
-use crate::answer;
 use crate::answer::{Answer, Expected};
+use crate::{answer, format};
 use std::alloc::{AllocError, Global};
 use std::io;
 
-// A longer job is not put to the planner, and counts as turned away without a reason.
+// A longer job is not put to the planner, and counts as turned away without a reason. That is an answer, and no `None`, since a line of
+// the table can expect it too, by `| 0 0`.
 const LONGEST: usize = 32896;
+
+const UNASKED: Answer = Answer::Refused { reason: 0, row: 0 };
 
 /// Is the job planned as expected? In an area that is just long enough, in a longer one, and in one that is a byte too short.
 pub(crate) fn is_right(
@@ -40,9 +43,7 @@ fn is_right_in(
     }
     let mut wanted = untouched(alloc, size)?;
     if let Answer::Planned(_) = expected {
-        for (to, from) in wanted.iter_mut().zip(x.sheet.iter()) {
-            *to = *from;
-        }
+        format::put(wanted.as_mut_slice(), 0, x.sheet.as_slice());
     }
     if let Some(at) = area.iter().zip(wanted.iter()).position(|(x, y)| *x != *y) {
         print!(rt; " byte {at}")?;
@@ -62,6 +63,6 @@ fn untouched(alloc: Global, size: u32) -> Result<Vec<u8>, AllocError> {
 fn ask(job: &[u8], area: &mut [u8], size: usize) -> Answer {
     match area.get_mut(..size) {
         Some(area) if job.len() <= LONGEST => answer::of(job, area),
-        _ => Answer::Refused { reason: 0, row: 0 },
+        _ => UNASKED,
     }
 }

@@ -11,13 +11,32 @@
 
 use crate::format::Equation;
 
+/// How each variable is linked to the next.
+#[derive(Clone, Copy)]
+pub enum Links {
+    Equal,
+    Doubled,
+    DoubledBack,
+}
+
+/// Any other number is as good as 3.
+impl From<i64> for Links {
+    fn from(number: i64) -> Links {
+        match number {
+            1 => Links::Equal,
+            2 => Links::Doubled,
+            _ => Links::DoubledBack,
+        }
+    }
+}
+
 /// Row k, where c is that of the last one.
-pub(crate) fn equation(links: i64, c: i64, k: u16) -> Equation<i64> {
+pub(crate) fn equation(links: Links, c: i64, k: u16) -> Equation<i64> {
     match (k, links) {
         (1023, _) => equal(254, 255, c),
-        (0..=254, 1) => equal(k, k + 1, 0),
-        (0..=254, 2) => link(k, k + 1),
-        (0..=254, _) => link(255 - k, 254 - k),
+        (0..=254, Links::Equal) => equal(k, k + 1, 0),
+        (0..=254, Links::Doubled) => link(k, k + 1),
+        (0..=254, Links::DoubledBack) => link(255 - k, 254 - k),
         _ => {
             let left = (k - 255) % 248;
             equal(left, left + 2 + 2 * ((k - 255) / 248), 0)
