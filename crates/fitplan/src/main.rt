@@ -39,6 +39,8 @@ fn main(rt: HostRuntime) -> io::Result<()> {
     // The lines are collected, and written together: a write for each would take longer than the line itself.
     let mut lines = Vec::new(alloc);
     report::show(&mut lines, outcome, &sheet)?;
-    map::show(&mut lines, lent, outcome, &map)?;
+    if lent.map {
+        map::show(&mut lines, outcome, &map)?;
+    }
     rt.write_all(&lines)
 }

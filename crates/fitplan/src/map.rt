@@ -3,7 +3,7 @@
 ghost use Rattle.std.specs.Prelude.{◌≡◌, length};
 
 use little_endian::u16_at;
-use planner::{Lent, Outcome};
+use planner::Outcome;
 use std::fmt::{Display, Formatter};
 use std::io::Write;
 use std::{fmt, io};
@@ -11,7 +11,8 @@ use std::{fmt, io};
 /// As long as the longest map: 24 + 4·256 + 4·1,024.
 pub type Map = [u8; 5144];
 
-/// What an equation does to the sets of counts that those before it joined.
+/// What an equation does to the sets of counts that those before it joined. It is read off the map's bytes, with no enum of the planner's.
+/// Any number but 1 and 2 is said as `fixes`, since a `TryFrom` would leave an error to print.
 #[derive(Drop)]
 enum Kind {
     Joins,
@@ -39,21 +40,17 @@ impl Display for Kind {
     }
 }
 
-/// Nothing where no map is lent or the job is refused: then there is none.
-pub(crate) fn show(
-    out: &mut impl Write,
-    lent: Lent,
-    outcome: Outcome,
-    map: &Map,
-) -> io::Result<()> {
-    if !lent.map || matches!(outcome, Outcome::Refused(_)) {
+/// Nothing where the job is refused: then there is no map.
+pub(crate) fn show(out: &mut impl Write, outcome: Outcome, map: &Map) -> io::Result<()> {
+    if let Outcome::Refused(_) = outcome {
         return Ok(());
     }
     let n = usize::from(u16_at(map, 4)).min(256);
     let m = usize::from(u16_at(map, 6)).min(1024);
     let g = u16_at(map, 16);
     writeln!(out, "map counts {n} equations {m} groups {g}")?;
-    // Rows of counts and of equations take 4 bytes, and stand one behind the other.
+    // Rows of counts and of equations take 4 bytes, and stand one behind the other. One function for these two loops and those over a
+    // sheet's rows (`report`) would take a width and two closures, and be no plainer.
     let (counts, equations) = map[24..].split_at(4 * n);
     for (i, row) in counts.chunks_exact(4).enumerate() {
         show_count(out, i, row)?;

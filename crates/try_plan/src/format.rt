@@ -84,6 +84,13 @@ pub(crate) fn sheet_length(n: u16, g: u16) -> u32 {
     24 + 16 * u32::from(n) + 16 * u32::from(g)
 }
 
+/// How many groups have their lowest variable below the end, where each variable has the lowest one of its group.
+pub(crate) fn groups_below<F: Fn(u16) -> u16>(end: u16, lowest: F) -> u16
+    requires { F.IsAlwaysCallable lowest }
+{
+    (0..end).filter(|&i| lowest(i) == i).count() as u16
+}
+
 /// What a sheet says of a variable and of its group.
 #[derive(Clone, Copy)]
 pub struct Entry {

@@ -31,17 +31,14 @@ fn line<F: Fn(&Traits) -> bool>(
 ) -> io::Result<()>
     requires { F.IsAlwaysCallable is_of_kind }
 {
-    let mut planned: u64 = 0;
-    let mut no_fit: u64 = 0;
-    for job in jobs {
-        if is_of_kind(job) {
-            if job.is_planned {
-                planned = planned.saturating_add(1);
-            } else {
-                no_fit = no_fit.saturating_add(1);
-            }
-        }
-    }
+    let planned = jobs
+        .iter()
+        .filter(|job| is_of_kind(job) && job.is_planned)
+        .count();
+    let no_fit = jobs
+        .iter()
+        .filter(|job| is_of_kind(job) && !job.is_planned)
+        .count();
     println!(rt; "{name}: planned {planned} no fit {no_fit}")
 }
 

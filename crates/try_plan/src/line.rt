@@ -121,9 +121,8 @@ impl Line {
         word(self.after(b'|', 4 * usize::from(self.place(i) % 256)))
     }
 
-    // How many groups have their lowest variable below the end.
     fn groups_below(&self, end: u16) -> u16 {
-        (0..end).filter(|&i| self.lowest(i) == i).count() as u16
+        format::groups_below(end, |i| self.lowest(i))
     }
 }
 

@@ -1,14 +1,16 @@
-//! The plan of a small job by plain search, through all lists of numbers within the bounds, of which there are at most 32,768.
+//! The plan of a small job by plain search, through all lists of numbers within the bounds, of which there are at most 32,768. It shares
+//! no code with what it is to try, nor with the other programs.
 
 use crate::answer::Expected;
 use crate::format::{Entry, Equation, Variable};
 use crate::small::{Job, Labels};
 use std::alloc::{AllocError, Global};
 
-/// A number for each variable.
+/// A number for each variable. Five by value, since up to 32,768 of them are made, and a `Vec` for each would be an allocation.
 pub type List = [i8; 5];
 
-// The numbers of variables that there are none of.
+// The numbers of variables that there are none of. Where a group has no list it stands for one, so that the entry, whose fits say that
+// there is none, has numbers all the same.
 const NOTHING: List = [-128; 5];
 
 // Further variables, which a small job does not have, have the number of the last.
@@ -65,26 +67,18 @@ impl Part<'_> {
 
     // Does every equation of the group hold?
     fn holds(self, list: List) -> bool {
-        for e in self.job.equations.iter() {
-            if self.member(e.home()).is_some() && !holds(*e, list) {
-                return false;
-            }
-        }
-        true
+        self.job
+            .equations
+            .iter()
+            .all(|e| self.member(e.home()).is_none() || holds(*e, list))
     }
 
     // All lists in which the equations of the group hold, in their order: the number at the lowest variable decides first.
     fn lists(self, alloc: Global) -> Result<Vec<List>, AllocError> {
-        let mut lists = Vec::new(alloc);
-        for code in 0..32768 {
-            let Some(list) = self.list(code) else {
-                break;
-            };
-            if self.holds(list) {
-                lists.push(list)?;
-            }
-        }
-        Ok(lists)
+        (0..32768)
+            .map_while(|code| self.list(code))
+            .filter(|list| self.holds(*list))
+            .collect(alloc)
     }
 
     // The sum of weight times number over the group.
@@ -99,21 +93,17 @@ impl Part<'_> {
     }
 }
 
-// The lists in which every equation of the job holds and that are worth most.
-fn best_of(alloc: Global, job: &Job) -> Result<Best, AllocError> {
+// Of the lists in which every equation of the job holds; none where there are none.
+fn best_of(alloc: Global, job: &Job) -> Result<Option<Best>, AllocError> {
     let whole = Part {
         job,
         labels: Labels::whole(),
         group: 0,
         others: NOTHING,
     };
-    let mut best = Best {
-        list: None,
-        worth: 0,
-        equals: 0,
-    };
+    let mut best: Option<Best> = None;
     for list in whole.lists(alloc)?.iter() {
-        best.take(*list, whole.worth(*list));
+        best = Some(Best::after(best, *list, whole.worth(*list)));
     }
     Ok(best)
 }
@@ -121,21 +111,27 @@ fn best_of(alloc: Global, job: &Job) -> Result<Best, AllocError> {
 /// The last of the lists that are worth most, what it is worth, and how many are worth as much.
 #[derive(Clone, Copy)]
 pub struct Best {
-    list: Option<List>,
+    list: List,
     worth: i32,
-    pub equals: u32,
+    equals: u32,
 }
 
 impl Best {
-    fn take(&mut self, list: List, worth: i32) {
-        if self.list.is_none() || worth > self.worth {
-            self.equals = 0;
-        } else if worth < self.worth {
-            return;
+    // The best after one list more.
+    fn after(best: Option<Best>, list: List, worth: i32) -> Best {
+        match best {
+            Some(best) if worth < best.worth => best,
+            Some(best) if worth == best.worth => Best {
+                list,
+                worth,
+                equals: best.equals.saturating_add(1),
+            },
+            _ => Best {
+                list,
+                worth,
+                equals: 1,
+            },
         }
-        self.list = Some(list);
-        self.worth = worth;
-        self.equals = self.equals.saturating_add(1);
     }
 }
 
@@ -143,7 +139,7 @@ impl Best {
 
 /// How many lists are best.
 pub(crate) fn best_lists(alloc: Global, job: &Job) -> Result<u32, AllocError> {
-    Ok(best_of(alloc, job)?.equals)
+    Ok(best_of(alloc, job)?.map_or(0, |best| best.equals))
 }
 
 /// What is expected of the job.
@@ -151,13 +147,14 @@ pub(crate) fn expect(alloc: Global, job: &Job) -> Result<Expected, AllocError> {
     let labels = job.labels();
     let best = best_of(alloc, job)?;
     let n = job.len();
-    let worth = i64::from(best.worth);
+    let worth = best.map_or(0, |best| i64::from(best.worth));
+    let list = best.map(|best| best.list);
     Expected::of(
         alloc,
         n,
         labels.groups_below(n),
         worth,
-        |i| entry(alloc, job, labels, best.list, i),
+        |i| entry(alloc, job, labels, list, i),
     )
 }
 

@@ -2,6 +2,7 @@
 
 ghost use Rattle.std.specs.Prelude.{◌≤◌};
 
+use crate::format;
 use crate::format::{Equation, Variable};
 use std::alloc::{AllocError, Global};
 
@@ -19,7 +20,7 @@ impl Variable<i8> {
 }
 
 impl Equation<i8> {
-    /// The variable whose group it belongs to.
+    /// The variable whose group it belongs to. The search shares no code with the planner, so this stands here again, and so does `read`.
     pub(crate) fn home(self) -> u16 {
         if self.a == 0 && self.b != 0 {
             self.right
@@ -91,7 +92,7 @@ fn byte(job: &[u8], at: usize) -> u8 {
     job.get(at).copied().unwrap_or(0)
 }
 
-/// For each variable the lowest one of its group.
+/// For each variable the lowest one of its group. Five by value: the search hands them on with each part.
 #[derive(Clone, Copy)]
 pub struct Labels([u16; 5]);
 
@@ -118,8 +119,7 @@ impl Labels {
         }
     }
 
-    /// How many groups have their lowest variable below the end.
     pub(crate) fn groups_below(self, end: u16) -> u16 {
-        (0..end).filter(|&i| self.of(i) == i).count() as u16
+        format::groups_below(end, |i| self.of(i))
     }
 }

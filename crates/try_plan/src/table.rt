@@ -12,7 +12,7 @@ use std::io;
 pub(crate) fn all(rt: &(impl Input + Print), alloc: Global) -> io::Result<()> {
     let text = input::read(rt, alloc)?;
     let mut family = Tally::default();
-    // What no line end closes is no line, and passed over.
+    // What no line end closes is no line, and passed over. Other programs go through their lines likewise; all that they share is `input`.
     for written in text.as_slice().split_inclusive(|x| *x == b'\n') {
         if let Some(written) = written.strip_suffix(b"\n") {
             line(rt, alloc, &mut family, written)?;
