@@ -1,6 +1,7 @@
 //! Bytes of a sheet or a map, for the variants of the planner.
 
-ghost use Rattle.std.specs.Prelude.{◌≡◌, cond, get_or, set};
+ghost use Rattle.std.specs.Prelude.{◌≡◌, if◌then◌else◌, slice_set};
+ghost use Rattle.std.specs.List.{slice_index_or};
 ghost use Rattle.planner.specs.Outcome.{verdict_of};
 ghost use Rattle.demands.specs.Rewrite.{is_planned, is_unfit, is_single, is_apart};
 
@@ -8,7 +9,7 @@ use planner::Outcome;
 
 // The byte at a place; past the end it is 0.
 pub(crate) fn get(s: &[u8], at: usize) -> u8
-    ensures { result ≡ get_or s.now at 0 }
+    ensures { result ≡ slice_index_or s.now at 0 }
 {
     s.get(at).copied().unwrap_or(0)
 }
@@ -16,7 +17,7 @@ pub(crate) fn get(s: &[u8], at: usize) -> u8
 // A byte written at a place, if it is told to; past the end nothing is. The test is an operand and no `if` of the caller's, so that an edit
 // changes an operand.
 pub(crate) fn put(area: &mut [u8], told: bool, at: usize, x: u8)
-    ensures { area.new ≡ cond told (set area.old at x) area.old }
+    ensures { area.new ≡ (if told then slice_set area.old at x else area.old) }
 {
     if told && at < area.len() {
         area[at] = x;
