@@ -1,6 +1,7 @@
 //! The sheet, written into the answer area: a header, a row for each variable, and a row for each group.
 
-ghost use Rattle.std.specs.Prelude.{◌≡◌, ◌+◌, ◌*◌, ◌≤◌, ◌<◌, length, get_or};
+ghost use Rattle.std.specs.Prelude.{◌≡◌, ◌+◌, ◌*◌, ◌≤◌, ◌<◌, length};
+ghost use Rattle.std.specs.List.{slice_index_or};
 ghost use Rattle.ints.specs.Within.{Within};
 ghost use Rattle.jobs.specs.Solution.{number};
 ghost use Rattle.jobs.specs.SheetLayout.{sheet_header, sheet_variable, sheet_group, sheet_variables, sheet_groups, sheet_of};
@@ -73,7 +74,7 @@ fn variable(area: &mut [u8], at: usize, number: i64, run: Run, group: u16)
 // The rows of the variables, with the numbers of their components.
 fn variables(area: &mut [u8], chosen: Chosen, components: &[u16; 256])
     requires { 24 + 16 * chosen.families.variables ≤ length area.old }
-    ensures { area.new ≡ over 24 (sheet_variables (number chosen.entry.numbers.now) (run_in chosen.entry.families.state.now.runs) (λ i. get_or components.now i 0) chosen.entry.families.variables) area.old }
+    ensures { area.new ≡ over 24 (sheet_variables (number chosen.entry.numbers.now) (run_in chosen.entry.families.state.now.runs) (λ i. slice_index_or components.now i 0) chosen.entry.families.variables) area.old }
 {
     for i in 0..chosen.families.variables {
         variable(

@@ -55,8 +55,8 @@ pub returns : goal.returns
 returns c = let x = c.args.chosen in
     let f = x.families in
     let a = c.args.area.now in
-    let headed = over_same 0 _ _ (ap (sheet_header f.variables f.components) (search rules)) c.header.ensures in
-    let after_header = first_long f.state.now.labels f.state.now.runs x.slopes.now x.numbers.now f.variables f.components x.worth f.counted a _ (omega (arith, c.requires)) headed in
+    let headed : c.header.new.area ≡ over 0 (sheet_header f.variables f.components x.worth) a = over_same 0 a _ (ap (sheet_header f.variables f.components) (search rules)) c.header.ensures in
+    let after_header : length c.header.new.area ≡ length a = first_long f.state.now.labels f.state.now.runs x.slopes.now x.numbers.now f.variables f.components x.worth f.counted a _ (omega (arith, c.requires)) headed in
     let after_variables = second_long f.state.now.labels f.state.now.runs x.slopes.now x.numbers.now f.variables f.components x.worth f.counted _ _ _ (omega (arith, after_header, c.requires)) c.variables.ensures ∙ after_header in
     whole f.state.now.labels f.state.now.runs x.slopes.now x.numbers.now f.variables f.components x.worth f.counted c.numbers-components.result a _ _ _ c.requires
     c.numbers-components.ensures
