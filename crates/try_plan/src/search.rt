@@ -93,7 +93,7 @@ impl Part<'_> {
     }
 }
 
-// Of the lists in which every equation of the job holds; none where there are none.
+// The best of the lists in which every equation of the job holds; `None` where there are none.
 fn best_of(alloc: Global, job: &Job) -> Result<Option<Best>, AllocError> {
     let whole = Part {
         job,

@@ -5,10 +5,10 @@ use crate::{answer, format};
 use std::alloc::{AllocError, Global};
 use std::io;
 
-// A longer job is not put to the planner, and counts as turned away without a reason. That is an answer, and no `None`, since a line of
-// the table can expect it too, by `| 0 0`.
+// A longer job is not put to the planner.
 const LONGEST: usize = 32896;
 
+// It counts as turned away without a reason. That is an answer, and no `None`, since a line of the table can expect it too, by `| 0 0`.
 const UNASKED: Answer = Answer::Refused { reason: 0, row: 0 };
 
 /// Is the job planned as expected? In an area that is just long enough, in a longer one, and in one that is a byte too short.
