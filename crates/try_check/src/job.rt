@@ -53,12 +53,12 @@ impl Paper {
     }
 }
 
-// The lowest 16 bits.
+// The lowest 16 bits; `as` alone asks that the number fits.
 fn word(x: i64) -> u16 {
     x.rem_euclid(65536) as u16
 }
 
-// A job of n variables and m equations.
+// A job of n variables and m equations, by hand: the crates below read jobs, and write none.
 fn lawful(alloc: Global, n: u16, m: u16) -> Result<Vec<u8>, AllocError> {
     let equations = 24 + 12 * u32::from(n);
     let length = equations + 20 * u32::from(m);
