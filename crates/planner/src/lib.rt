@@ -65,7 +65,7 @@ pub struct Lent {
 }
 
 /// The areas of a planning call: the answer area, for the sheet, and the map area, which is any slice where it is not lent. The flag stands
-/// beside the slice: where the field was an `Option` of a slice, a caller's proof knew of it no more than its length.
+/// beside the slice: with an `Option` of a slice in a field, a caller's proof knows of it no more than its length.
 #[derive(Drop)]
 pub struct Areas<'s, 'm> {
     pub sheet: &'s mut [u8],

@@ -21,7 +21,7 @@ use Rattle.jobs.proofs.NormalForm.{binary?, Binary-false, normal-Binary, normal-
 use Rattle.jobs.proofs.Structure.{kind_unary, degree_none, degree_most, degree_named, degree_other}
 use Rattle.solver.specs.Labels.{Labels}
 use Rattle.solver.proofs.LawfulRows.{Sizes, n_most, m_most, left_below, right_below, normal_left, normal_right}
-use Rattle.solver.specs.Structured.{number_of, kind_in, added}
+use Rattle.solver.specs.Structured.{kind_number, kind_in, added}
 use Rattle.solver.specs.declared.structure.Kind.{Kind}
 use Rattle.solver.specs.declared.structure.Kind.TheVariants.{Joins}
 
@@ -184,7 +184,7 @@ module _ {j : Job} {n k : ℕ} {labels degrees homes : List ℕ} {kinds : List K
 
   -- with the labels after it, and what was found of its kind and of what it adds to its right variable
   pub onward : (after : List ℕ) → Labels j (k + 1) n after → (b : Bool) → b ≡ is_binary e → {l r : ℕ} → l ≡ get_or labels x.left 0 → r ≡ get_or labels x.right 0 →
-      (y : Kind) → number_of y ≡ kind_by b l r → (z : ℕ) → z ≡ added e.left e.right →
+      (y : Kind) → kind_number y ≡ kind_by b l r → (z : ℕ) → z ≡ added e.left e.right →
       Through j n (k + 1) after (set (more degrees e.left) e.right (get_or (more degrees e.left) e.right 0 + z)) (set homes k x.left) (set kinds k y)
   onward after a b f u v y q z w = record {
     labelled = a;
@@ -205,6 +205,6 @@ module _ {j : Job} {n k : ℕ} {labels degrees homes : List ℕ} {kinds : List K
 
       sorted : (i : ℕ) → i < k + 1 → Dec (i ≡ k) → kind_in (set kinds k y) i ≡ kind j i
       sorted i h (yes s) =
-          rw s (ap number_of (get_or-set_same kinds k y Joins (omega (arith, r.below, t.sorted_1024)))
+          rw s (ap kind_number (get_or-set_same kinds k y Joins (omega (arith, r.below, t.sorted_1024)))
           ∙ q ∙ ap₂ (kind_by b) u v ∙ kinds_same ∙ kind_by_lem j k n labels t.labelled left right)
-      sorted i h (no d) = ap number_of (get_or-set_other kinds k i y Joins d) ∙ t.sorts i (omega (arith, h, d))
+      sorted i h (no d) = ap kind_number (get_or-set_other kinds k i y Joins d) ∙ t.sorts i (omega (arith, h, d))

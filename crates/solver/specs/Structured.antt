@@ -10,13 +10,13 @@ use Rattle.solver.specs.declared.structure.Kind.TheVariants.{Joins, Ring, Fixes}
 use Rattle.solver.specs.declared.structure.Structure.{Structure}
 
 -- the number of a kind in the map
-abbrev pub number_of : Kind → ℕ
-number_of Joins = 1
-number_of Ring = 2
-number_of Fixes = 3
+abbrev pub kind_number : Kind → ℕ
+kind_number Joins = 1
+kind_number Ring = 2
+kind_number Fixes = 3
 
 abbrev pub kind_in : List Kind → ℕ → ℕ
-kind_in kinds k = number_of (get_or kinds k Joins)
+kind_in kinds k = kind_number (get_or kinds k Joins)
 
 -- after the first m equations of the job: the labels of n variables, and how many equations name each; and of each equation its home
 -- and its kind

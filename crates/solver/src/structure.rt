@@ -3,7 +3,7 @@
 ghost use Rattle.std.specs.Prelude.{◌≡◌};
 ghost use Rattle.jobs.specs.Job.{job_of};
 ghost use Rattle.jobs.specs.Structure.{kind_by};
-ghost use Rattle.solver.specs.Structured.{number_of, Structured, added};
+ghost use Rattle.solver.specs.Structured.{kind_number, Structured, added};
 
 use crate::components::Components;
 use jobs::LawfulJob;
@@ -21,9 +21,9 @@ pub enum Kind {
 
 /// Its number in the map.
 impl From<Kind> for u16 {
-    ghost use Rattle.solver.specs.Structured.{number_of};
+    ghost use Rattle.solver.specs.Structured.{kind_number};
 
-    ghost from_gives = { λ kind result. result ≡ number_of kind };
+    ghost from_gives = { λ kind result. result ≡ kind_number kind };
 
     fn from(kind: Kind) -> u16 {
         kind as u16
@@ -33,7 +33,7 @@ impl From<Kind> for u16 {
 impl Kind {
     // The kind of an equation between variables of these components.
     fn of(binary: bool, l: u16, r: u16) -> Kind
-        ensures { number_of result ≡ kind_by binary l r }
+        ensures { kind_number result ≡ kind_by binary l r }
     {
         if !binary {
             Kind::Fixes
