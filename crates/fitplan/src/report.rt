@@ -10,6 +10,7 @@ use std::io::Write;
 /// As long as the longest sheet: 24 + 16·256 + 16·256.
 pub type Sheet = [u8; 8216];
 
+// The numbers of a refusal one by one: `Reason` is in the archive, which formats no text.
 pub(crate) fn show(out: &mut impl Write, outcome: Outcome, sheet: &Sheet) -> io::Result<()> {
     match outcome {
         Outcome::Planned(_) => show_sheet(out, sheet),

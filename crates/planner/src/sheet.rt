@@ -30,7 +30,7 @@ pub(crate) fn length(shape: Shape, g: usize) -> usize
     24 + 16 * shape.variables + 16 * g
 }
 
-// All of it. What lies behind it stays.
+// All of it. What lies behind it stays. Functions and no methods of `Chosen`: each writes into what is lent first, as those of the map do.
 pub(crate) fn write(area: &mut [u8], chosen: Chosen)
     requires { 24 + 16 * chosen.families.variables + 16 * chosen.families.components ≤ length area.old }
     ensures { area.new ≡ over 0 (sheet_of (findings_of chosen.entry)) area.old }

@@ -1,4 +1,5 @@
-//! Components, each named by its lowest variable.
+//! Components, each named by its lowest variable. A label is an index by `as usize`, here and in the modules behind: it loses nothing of a
+//! u16, and is shorter than `usize::from`.
 
 ghost use Rattle.std.specs.Prelude.{◌≡◌, ◌≤◌, ◌<◌, ◌+◌, length};
 ghost use Rattle.lists.specs.Table.{Tabulates};
@@ -110,7 +111,7 @@ pub fn count(labels: &[u16; 256], n: usize) -> usize
 /// The number of the component of each of n variables: they are numbered in the order of their lowest variables.
 #[tactic(auto, using(crate::proofs::LowestVariables::leads_none))]
 pub fn numbers(labels: &[u16; 256], n: usize) -> [u16; 256]
-    requires n_bound { n ≤ 256 }
+    requires few { n ≤ 256 }
     requires lowest { Lowest labels.now n }
     ensures { Tabulates 0 (component_by (label_in labels.now) n) n result }
 {

@@ -56,7 +56,7 @@ fn candidate(value: i64, coefficient: i64, many: u32) -> Run
     in_range(ints::quotient(value, coefficient), many)
 }
 
-// The index k alone, if it is one.
+// The index k alone, if it is one. A run of indices, which need not lie in the range of `runs`.
 fn in_range(k: i64, many: u32) -> Run
     ensures { result ≡ in_range k many }
 {

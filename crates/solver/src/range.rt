@@ -8,7 +8,7 @@ ghost use Rattle.solver.specs.VariableArrays.{Begins};
 use jobs::{Bounds, Shape};
 use runs::Run;
 
-// All numbers from low to high.
+// All numbers from low to high. Written out: `progression` of `runs` takes how many follow the first, and to ask that is this test again.
 fn interval(b: Bounds) -> Run
     requires { Bounded b }
     ensures { result ≡ interval b.low b.high }

@@ -37,6 +37,7 @@ fn answer(rt: &impl Print, alloc: Global, paper: &mut Paper, t: &Numbers) -> io:
     };
     match jobs::check(job) {
         Ok(()) => print!(rt; "accepted"),
+        // `Reason` is in the archive, and formats no text.
         Err(r) => print!(rt; "{} row {}", r.number(), r.row()),
     }
 }

@@ -38,7 +38,7 @@ fn main(rt: HostRuntime) -> io::Result<()> {
     println!(&rt; "random pairs {agree} agree")
 }
 
-// A line for a pair: the quotient, or the reason and the row.
+// A line for a pair: the quotient, or the reason and the row, number by number, as `Reason` formats no text.
 fn show(rt: &impl Print, n: i64, d: i64) -> io::Result<()> {
     match ints::divide(n, d) {
         Ok(q) => println!(rt; "{n} by {d} is {q}"),

@@ -68,7 +68,7 @@ fn main(rt: HostRuntime) -> io::Result<()> {
     println!(rt; "small pairs {agree} agree, divisions {divisions}, factors add up to {factors}")
 }
 
-// A line for a pair: the factor and the number of divisions, or the reason and the row.
+// A line for a pair: the factor and the number of divisions, or the reason and the row, number by number, as `Reason` formats no text.
 fn show(rt: &impl Print, a: i64, b: i64) -> io::Result<()> {
     match euclid::common_divisor(a, b) {
         Ok((g, n)) => println!(rt; "{a} and {b}: factor {g}, divisions {n}"),

@@ -9,6 +9,7 @@ use crate::{line, search, trial};
 use std::alloc::{AllocError, Global};
 use std::io;
 
+// Where memory comes from and where is printed go along as two: a struct of both would name the type of each again.
 pub(crate) fn all(rt: &(impl Input + Print), alloc: Global) -> io::Result<()> {
     let text = input::read(rt, alloc)?;
     let mut family = Tally::default();

@@ -20,14 +20,14 @@ loop-i-preserved c = let labels = c.args.labels.now in
         omega (arith, w.next-is, l.invariant.0),
         (
           omega (arith, e, w.next-is, l.invariant.1.0),
-          subst F (sym w.numbers-is) (next_numbered labels n l.i l.numbers c.requires.n_bound (omega arith) l.invariant.1.1 l.next l.invariant.1.0 w.if-l-i.true),
+          subst F (sym w.numbers-is) (next_numbered labels n l.i l.numbers c.requires.few (omega arith) l.invariant.1.1 l.next l.invariant.1.0 w.if-l-i.true),
         ),
       )
       | else-l-i w ↦ let e = m.1 w.if-l-i.false in (
         omega (arith, w.next-is, l.invariant.0),
         (
           omega (arith, e, w.next-is, l.invariant.1.0),
-          subst F (sym w.numbers-is) (same_numbered labels n l.i l.numbers c.requires.n_bound (omega arith) l.invariant.1.1 c.requires.lowest w.if-l-i.false),
+          subst F (sym w.numbers-is) (same_numbered labels n l.i l.numbers c.requires.few (omega arith) l.invariant.1.1 c.requires.lowest w.if-l-i.false),
         ),
       )
     ]
