@@ -8,7 +8,7 @@ use planner::{Lent, Outcome};
 use reasons::Reason;
 use runs::Run;
 
-// Which areas are lent, by the bits.
+// Which areas are lent, by the bits of a number: the C interface.
 pub(crate) fn lent_by(bits: u32) -> Lent
     ensures { result ≡ lent_by bits }
 {

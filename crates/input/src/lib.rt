@@ -1,7 +1,7 @@
 //! What the programs read: as many bytes as are wanted, and for the test programs the whole numbers that stand in a text.
 #![tactic(auto)]
 
-ghost use Rattle.std.specs.Prelude.{◌≡◌, ◌≢◌, ◌≤◌, None, IfErr, IfOk, vec_len};
+ghost use Rattle.std.specs.Prelude.{◌≡◌, ◌≢◌, ◌≤◌, ◌<◌, None, IfErr, IfOk, vec_len};
 ghost use Rattle.std.specs.IoError.{error_kind};
 
 use arrayvec::ArrayVec;
@@ -42,7 +42,9 @@ pub struct Numbers {
 
 impl Numbers {
     /// Those of no text.
-    pub fn new() -> Numbers {
+    pub fn new() -> Numbers
+        ensures closed { result.begun ≡ None }
+    {
         Numbers {
             closed: ArrayVec::new(),
             begun: None,
@@ -63,7 +65,9 @@ impl Numbers {
     }
 
     /// Reads one byte more. Of a longer number the last 19 digits count, in two's complement.
-    pub fn read(&mut self, x: u8) {
+    pub fn read(&mut self, x: u8)
+        ensures closed { x < 48 → self.new.begun ≡ None }
+    {
         if x.is_ascii_digit() {
             let size = self.begun.unwrap_or(0) % 1000000000000000000;
             self.begun = Some(10 * size + u64::from(x - b'0'));
@@ -103,7 +107,9 @@ impl Numbers {
     }
 
     /// How many there are, without the open one.
-    pub fn len(&self) -> usize {
+    pub fn len(&self) -> usize
+        ensures { result ≤ 64 }
+    {
         self.closed.len()
     }
 

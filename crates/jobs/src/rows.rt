@@ -109,6 +109,7 @@ impl Bounds {
 
 impl Equation {
     /// a, b and c alone, as `Run::carry` takes them.
+    // A method and no `From`: it is public, and `form` is the definition's word.
     pub fn form(self) -> runs::Equation
         ensures { result ≡ form self }
     {

@@ -1,4 +1,4 @@
-//! The choice in each component, and what it comes to.
+//! The choice in each component, and what it comes to. A label is an index by `as usize`, as in `solver::components`.
 
 ghost use Rattle.std.specs.Prelude.{◌≡◌, ◌≤◌, pos, length};
 ghost use Rattle.lists.specs.Table.{Tabulates};
@@ -37,7 +37,7 @@ pub(crate) fn choice(slope: i64, many: u32) -> u32
     if 0 <= slope { many - 1 } else { 0 }
 }
 
-// A variable's number in the member that is chosen.
+// A variable's number in the member that is chosen. The index goes by `as`: with `i64::from` the proof did not close.
 fn number(run: Run, slope: i64) -> i64
     requires family_run { FamilyRun run }
     requires some { 1 ≤ run.many }

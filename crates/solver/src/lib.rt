@@ -31,7 +31,7 @@ pub mod equations;
 /// `first + step·k`, for each k below `many`. The k and the `many` are the component's, so that all its variables move together;
 /// a step may be negative, but that of the component's lowest variable is not. With two or more members no step is 0, with one every
 /// step is, and a component that no numbers fit is 0, 0, 0 throughout.
-// Plain arrays with no invariant, so that any state can be lent to `equations::families`.
+// Document 01's form, an array of runs and one of labels. It has no invariant, so that any state can be lent to `equations::families`.
 #[derive(Clone, Copy)]
 pub struct State {
     pub labels: [u16; 256],

@@ -47,7 +47,7 @@ impl Kind {
 
 /// What the pass finds: of each variable its label, the lowest variable of its component, and how many equations name it; of each
 /// equation its home, the variable whose component is its own, and its kind.
-// Arrays side by side: `numbers` takes the labels alone, and no reader wants the home and the kind of an equation as one value.
+// Arrays side by side: `components::count` and `numbers` take the labels alone.
 #[derive(Clone, Copy)]
 pub struct Structure {
     pub labels: [u16; 256],

@@ -119,6 +119,7 @@ impl Entry {
 }
 
 /// Puts bytes at a place. What would lie past the end is left out.
+// `try_check` has its like: the programs share `input` and no more.
 pub(crate) fn put(sheet: &mut [u8], at: usize, bytes: &[u8]) {
     for (to, from) in sheet.iter_mut().skip(at).zip(bytes) {
         *to = *from;

@@ -126,7 +126,7 @@ impl Line {
     }
 }
 
-// The lowest 16 bits.
+// The lowest 16 bits, as in `try_check`: the programs share `input` and no more.
 pub(crate) fn word(x: i64) -> u16 {
     x.rem_euclid(65536) as u16
 }

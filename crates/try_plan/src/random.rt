@@ -142,6 +142,7 @@ impl Seed {
     }
 }
 
+// A step wider each, as in the search: a function over the width would be longer.
 fn times(x: i16, y: i16) -> i32 {
     i32::from(x) * i32::from(y)
 }

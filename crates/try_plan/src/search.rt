@@ -18,6 +18,7 @@ fn number(list: List, i: u16) -> i8 {
     list[usize::from(i.min(4))]
 }
 
+// A step wider each, so that sums of products fit.
 fn times(x: i8, y: i8) -> i16 {
     i16::from(x) * i16::from(y)
 }
