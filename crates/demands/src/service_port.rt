@@ -10,7 +10,7 @@ use reasons::Reason;
 
 /// Plans a job with its amendments: any bytes, and any areas.
 pub fn plan(job: &[u8], amendments: &[u8], areas: &mut Areas) -> Outcome
-    ensures same { SameBorrows areas.old areas.new }
+    ensures same_areas { SameBorrows areas.old areas.new }
     ensures turns_away { TurnsAway (call_of job.now amendments.now (lent_in areas.old)) (verdict_of result) (lent_in areas.new) }
 {
     planner::plan(job, amendments, areas)

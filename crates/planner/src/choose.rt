@@ -40,7 +40,7 @@ pub(crate) fn choice(slope: i64, many: u32) -> u32
 // A variable's number in the member that is chosen. The index goes by `as`: with `i64::from` the proof did not close.
 fn number(run: Run, slope: i64) -> i64
     requires family_run { FamilyRun run }
-    requires some { 1 ≤ run.many }
+    requires not_empty { 1 ≤ run.many }
     ensures { result ≡ number_at run slope }
 {
     run.first + run.step * choice(slope, run.many) as i64

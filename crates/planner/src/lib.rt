@@ -86,7 +86,7 @@ impl Areas<'_, '_> {
 /// keep the demands of the service port, of the installer, of the buyer and of the repair bench; a refusal has the first reason of the
 /// table whose rule is broken. A map area that is not lent stays as it is.
 pub fn plan(job: &[u8], amendments: &[u8], areas: &mut Areas) -> Outcome
-    ensures same { SameBorrows areas.old areas.new }
+    ensures same_areas { SameBorrows areas.old areas.new }
     ensures plans { Plans (call_of job.now amendments.now (lent_in areas.old)) (verdict_of result) (lent_in areas.new) }
     ensures first_broken_rule { refusal_of result ≡ first_broken (call_of job.now amendments.now (lent_in areas.old)) }
     ensures unlent { UntouchedUnless areas.old.lent.map areas.old.map.now areas.new.map.now }
@@ -100,7 +100,7 @@ pub fn plan(job: &[u8], amendments: &[u8], areas: &mut Areas) -> Outcome
 
 // The plan, or why there is none. Whether the areas are long enough is asked before any fit is sought and anything written.
 fn attempt(job: &[u8], amendments: &[u8], areas: &mut Areas) -> Result<Fit, Reason>
-    ensures same { SameBorrows areas.old areas.new }
+    ensures same_areas { SameBorrows areas.old areas.new }
     ensures plans { Plans (call_of job.now amendments.now (lent_in areas.old)) (verdict_of (outcome_of result)) (lent_in areas.new) }
     ensures first_broken_rule { refusal_of (outcome_of result) ≡ first_broken (call_of job.now amendments.now (lent_in areas.old)) }
     ensures unlent { UntouchedUnless areas.old.lent.map areas.old.map.now areas.new.map.now }
@@ -113,7 +113,7 @@ fn attempt(job: &[u8], amendments: &[u8], areas: &mut Areas) -> Result<Fit, Reas
 // Writes the map, if its area is lent, and gives the number of components, where the areas are long enough for the job. The arrays of
 // the job's structure end here, so that their stack serves the families too.
 fn surveyed(accepted: Accepted, areas: &mut Areas) -> Result<usize, Reason>
-    ensures same { SameBorrows areas.old areas.new }
+    ensures same_areas { SameBorrows areas.old areas.new }
     ensures sheet { areas.new.sheet.now ≡ areas.old.sheet.now }
     ensures surveyed { Surveyed accepted.entry areas.old areas.new.map.now result }
 {

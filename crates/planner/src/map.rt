@@ -45,7 +45,7 @@ pub(crate) fn write(map: &mut [u8], structure: &Structure, shape: Shape, g: usiz
 }
 
 fn header(map: &mut [u8], shape: Shape, g: usize)
-    requires g_bound { g ≤ 256 }
+    requires few_components { g ≤ 256 }
     requires room { 24 ≤ length map.old }
     ensures { map.new ≡ over 0 (map_header shape.variables shape.equations g) map.old }
 {

@@ -59,8 +59,8 @@ fn header(area: &mut [u8], chosen: Chosen)
 
 // The row of a variable, from a place on.
 fn variable(area: &mut [u8], at: usize, number: i64, run: Run, group: u16)
-    requires at_in_bounds { at + 16 ≤ length area.old }
-    requires within { Within 1000000000 number }
+    requires room { at + 16 ≤ length area.old }
+    requires small_number { Within 1000000000 number }
     requires family_run { FamilyRun run }
     ensures { area.new ≡ over at (sheet_variable number run group) area.old }
 {
@@ -89,8 +89,8 @@ fn variables(area: &mut [u8], chosen: Chosen, components: &[u16; 256])
 
 // The row of a group, from a place on.
 fn group(area: &mut [u8], at: usize, many: u32, slope: i64)
-    requires at_in_bounds { at + 16 ≤ length area.old }
-    requires some { 1 ≤ many }
+    requires room { at + 16 ≤ length area.old }
+    requires not_empty { 1 ≤ many }
     ensures { area.new ≡ over at (sheet_group many (choice slope many) slope) area.old }
 {
     little_endian::put(area, at, &many.to_le_bytes());

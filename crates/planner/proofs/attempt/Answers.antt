@@ -69,7 +69,7 @@ returns-in_err-g-clause-plans c = let x = c.args in
     let o = c.in_ok-accepted.ensures in
     let (p, q) = as_broken call r (sym (ap first_broken (as_called c.in_ok-accepted.accepted lent o.job_opened o.amendments_opened)) ∙ k.surveyed.first) in
     promised call (ap (λ x. verdict_of (outcome_of x)) e ∙ sym p)
-    (ap (λ l. areas_in l after.sheet.now after.map.now) k.same.lent ∙ ap₂ (areas_in lent.lent) k.sheet k.surveyed.untouched ∙ sym q)
+    (ap (λ l. areas_in l after.sheet.now after.map.now) k.same_areas.lent ∙ ap₂ (areas_in lent.lent) k.sheet k.surveyed.untouched ∙ sym q)
 
 pub returns-clause-plans : goal.returns-clause-plans
 returns-clause-plans c = let x = c.in_ok-accepted.accepted in
@@ -80,7 +80,7 @@ returns-clause-plans c = let x = c.in_ok-accepted.accepted in
     let (p, q) = as_fitting (call_accepted x lent) k.surveyed.none_broken in
     subst (λ call. Plans call (verdict_of (outcome_of (Ok c.solved.result))) (areas_in c.surveyed.new.areas.lent c.solved.new.area c.surveyed.new.areas.map.now)) (as_called x lent o.job_opened o.amendments_opened)
     (promised (call_accepted x lent) (settled c.solved.result ∙ c.solved.ensures.fits ∙ sym p)
-    (ap (λ l. areas_in l c.solved.new.area c.surveyed.new.areas.map.now) k.same.lent
+    (ap (λ l. areas_in l c.solved.new.area c.surveyed.new.areas.map.now) k.same_areas.lent
     ∙ ap₂ areas_of (c.solved.ensures.area_after ∙ ap (sheet_after (findings j) (fitting j)) k.sheet)
     (ap (lent_as lent.lent.map) k.surveyed.written ∙ mapped (structure j) (fitting j) lent.lent.map lent.map.now (fitting-Mapped j))
     ∙ sym q))

@@ -44,12 +44,12 @@ chosen c = c.choice.ensures ∙ ap (λ g. choice g c.args.run.many) (to_z-of_z c
 
 pub overflow_mul-result : goal.overflow_mul-result
 overflow_mul-result c = let a = (goal.at.overflow_mul-result c).After-choice in
-    subst (SFits w64) (sym (product c.args.run c.args.slope c.choice.result c.requires.family_run c.requires.some (chosen a))) (fits_product c.args.run c.args.slope c.choice.result c.requires.family_run c.requires.some (chosen a))
+    subst (SFits w64) (sym (product c.args.run c.args.slope c.choice.result c.requires.family_run c.requires.not_empty (chosen a))) (fits_product c.args.run c.args.slope c.choice.result c.requires.family_run c.requires.not_empty (chosen a))
 
 pub overflow_add-result : goal.overflow_add-result
 overflow_add-result c = let a = (goal.at.overflow_add-result c).After-choice in
-    subst (SFits w64) (sym (total c.args.run c.args.slope c.choice.result c.requires.family_run c.requires.some (chosen a))) (fits_total c.args.run c.args.slope c.choice.result c.requires.family_run c.requires.some (chosen a))
+    subst (SFits w64) (sym (total c.args.run c.args.slope c.choice.result c.requires.family_run c.requires.not_empty (chosen a))) (fits_total c.args.run c.args.slope c.choice.result c.requires.family_run c.requires.not_empty (chosen a))
 
 pub returns : goal.returns
 returns c = let a = (goal.at.returns c).After-choice in
-    ap held (total c.args.run c.args.slope c.choice.result c.requires.family_run c.requires.some (chosen a)) ∙ to_z-of_z (fits_total c.args.run c.args.slope c.choice.result c.requires.family_run c.requires.some (chosen a)) ∙ ap (λ k. c.args.run.first +ℤ c.args.run.step *ℤ pos k) (chosen a)
+    ap held (total c.args.run c.args.slope c.choice.result c.requires.family_run c.requires.not_empty (chosen a)) ∙ to_z-of_z (fits_total c.args.run c.args.slope c.choice.result c.requires.family_run c.requires.not_empty (chosen a)) ∙ ap (λ k. c.args.run.first +ℤ c.args.run.step *ℤ pos k) (chosen a)

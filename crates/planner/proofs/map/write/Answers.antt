@@ -39,8 +39,8 @@ module _ (t : Structure) (n : ℕ) where
       let w₂ = behind_it w₁ (omega arith) (map_rows (of_variable t n) (at t.degrees) n) e₂ refl (length_rows (of_variable t n) (at t.degrees) n) in
       (behind_it w₂ (omega arith) (map_rows (of_equation t n) (kind_in t.kinds) m) e₃ (omega arith) (length_rows (of_equation t n) (kind_in t.kinds) m)).is
 
-pub header-requires-clause-g_bound : goal.header-requires-clause-g_bound
-header-requires-clause-g_bound c = let x = c.args in omega (arith, c.requires.counted, leads_length (label_in x.structure.now.labels) x.shape.variables, x.shape.few_variables)
+pub header-requires-clause-few_components : goal.header-requires-clause-few_components
+header-requires-clause-few_components c = let x = c.args in omega (arith, c.requires.counted, leads_length (label_in x.structure.now.labels) x.shape.variables, x.shape.few_variables)
 
 pub loop-i-init : goal.loop-i-init
 loop-i-init c = let t = c.args.structure.now in

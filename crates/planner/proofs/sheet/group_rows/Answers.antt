@@ -49,8 +49,8 @@ loop-i-init c = let x = c.args.chosen in
       sym (ap (λ b. over 0 b c.args.part.now) (groups_none g (run_in runs) (chosen_in runs x.slopes.now) (number x.slopes.now)) ∙ over_none 0 c.args.part.now (omega arith)),
     )
 
-pub group-requires-clause-at_in_bounds : goal.group-requires-clause-at_in_bounds
-group-requires-clause-at_in_bounds c = let x = c.args.chosen in
+pub group-requires-clause-room : goal.group-requires-clause-room
+group-requires-clause-room c = let x = c.args.chosen in
     let labels = x.families.state.now.labels in
     let l = c.loop-i in omega (
       arith,

@@ -49,8 +49,8 @@ overflow_cast-run-2 c = held_fits (omega arith) (step-Within c.requires.family_r
 pub returns : goal.returns
 returns c = let x = c.args in
     let f = c.requires.family_run in
-    row x.at x.number x.run x.group x.area.now _ _ _ _ _ c.requires.at_in_bounds
-    (over_same x.at _ _ (cast_bytes c.ranges.number c.requires.within (omega arith) c.to_le_bytes.ensures) c.put.ensures)
+    row x.at x.number x.run x.group x.area.now _ _ _ _ _ c.requires.room
+    (over_same x.at _ _ (cast_bytes c.ranges.number c.requires.small_number (omega arith) c.to_le_bytes.ensures) c.put.ensures)
     (over_same (x.at + 4) _ _ (cast_bytes (search rules) (first-Within f) (omega arith) c.to_le_bytes-2.ensures) c.put-2.ensures)
     (over_same (x.at + 8) _ _ (cast_bytes (search rules) (step-Within f) (omega arith) c.to_le_bytes-3.ensures) c.put-3.ensures)
     (over_same (x.at + 12) _ _ (c.to_le_bytes-4.ensures ∙ u16_bytes x.group) c.put-4.ensures)
