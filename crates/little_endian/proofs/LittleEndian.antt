@@ -65,3 +65,18 @@ unsigned_more k s at e = rw (← e) (omega arith)
 
 pub below_more : (k : ℕ) {x b : ℕ} → x < 256 ^ k → b < 256 → 256 * x + b < 256 ^ suc k
 below_more k h l = rw (pow-succ' 256 k) (omega arith)
+
+-- ---- as the code writes them: one byte more behind
+-- what is left of x after i bytes
+abbrev pub shifted : ℕ → ℕ → ℕ
+shifted zero x = x
+shifted (suc i) x = shifted i (x / 256)
+
+pub shifted_next : (i x : ℕ) → shifted i x / 256 ≡ shifted (suc i) x
+shifted_next zero x = refl
+shifted_next (suc i) x = shifted_next i (x / 256)
+
+pub bytes_next : (i x : ℕ) → bytes_of i x ++ (shifted i x % 256) ∷ [] ≡ bytes_of (suc i) x
+unfolding bytes_of
+bytes_next zero x = refl
+bytes_next (suc i) x = ap (λ r. (x % 256) ∷ r) (bytes_next i (x / 256))

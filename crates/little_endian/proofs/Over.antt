@@ -1,10 +1,10 @@
 -- Bytes written over others, piece behind piece.
 use mathlib.Core.Path.{◌≡◌, refl, sym, ◌∙◌, ap}
 use mathlib.Core.List.{List, [], ◌∷◌, ◌++◌, append-nil}
-use Prim.Native.Nat.{ℕ, zero, suc, ◌+◌, ◌-◌, ◌≤◌}
+use Prim.Native.Nat.{ℕ, zero, suc, ◌+◌, ◌-◌, ◌≤◌, ◌<◌}
 use native.Mathlib.Nat.{zero-add, suc-add}
 use native.Mathlib.Omega.{arith}
-use lib.ListN.{length, take, drop, length-drop, drop_of_length-le}
+use lib.ListN.{length, take, drop, set, length-drop, drop_of_length-le}
 use lib.Seq.{take_all}
 use borrow.Rule.Slice.PartMut.{mid_of, post_of, put_mid}
 use Rattle.lists.proofs.Places.{length_both}
@@ -24,6 +24,12 @@ pub over_none : (at : ℕ) (a : List ℕ) → at ≤ length a → over at [] a �
 over_none zero a h = over_zero [] a
 over_none (suc at) [] h = absurd (omega arith)
 over_none (suc at) (x ∷ a) h = over-cons at [] x a ∙ ap (λ r. x ∷ r) (over_none at a (omega arith))
+
+-- one byte
+pub over_set : (a : List ℕ) (at x : ℕ) → at < length a → set a at x ≡ over at (x ∷ []) a
+over_set [] at x h = absurd (omega arith)
+over_set (y ∷ a) zero x h = sym (over_zero (x ∷ []) (y ∷ a))
+over_set (y ∷ a) (suc at) x h = ap (λ r. y ∷ r) (over_set a at x (omega arith)) ∙ sym (over-cons at (x ∷ []) y a)
 
 -- two pieces, one behind the other
 behind : (b c a : List ℕ) → length b ≤ length a → over (length b) c (b ++ drop (length b) a) ≡ (b ++ c) ++ drop (length (b ++ c)) a

@@ -2,7 +2,7 @@
 #![tactic(auto)]
 
 ghost use Rattle.std.specs.Prelude.{◌≡◌, ◌+◌, ◌≤◌, ◌<◌, ◌^◌, length};
-ghost use Rattle.little_endian.specs.LittleEndian.{unsigned, u16, u32, i32, i64};
+ghost use Rattle.little_endian.specs.LittleEndian.{unsigned, u16, u32, i32, i64, bytes_of};
 ghost use Rattle.little_endian.specs.Over.{over};
 
 // Four readers, since the width is the number's type: a trait for the four would be longer than they are.
@@ -66,9 +66,22 @@ pub fn get(s: &[u8], at: usize, width: usize) -> u64
     x
 }
 
+/// The lowest `width` bytes of x written over those of an area, from a place on, the lowest first; where the width is above 8, zeros behind
+/// them. They lie within the area.
+pub fn put(area: &mut [u8], at: usize, width: usize, x: u64)
+    requires { at + width ≤ length area.old }
+    ensures { area.new ≡ over at (bytes_of width x) area.old }
+{
+    let mut rest = x;
+    for i in 0..width {
+        area[at + i] = (rest % 256) as u8;
+        rest /= 256;
+    }
+}
+
 /// Bytes written over those of an area, from a place on: a mark, or a number as `to_le_bytes` gives it.
 #[tactic(auto, unfolding(crate::specs::Over::over))]
-pub fn put(area: &mut [u8], at: usize, bytes: &[u8])
+pub fn put_bytes(area: &mut [u8], at: usize, bytes: &[u8])
     requires { at + length bytes.now ≤ length area.old }
     ensures { area.new ≡ over at bytes.now area.old }
 {

@@ -9,9 +9,9 @@ pub(crate) fn begin(area: &mut [u8], mark: &[u8; 4], first: u16, second: u16, ro
     requires { 16 ≤ length area.old }
     ensures { area.new ≡ over 0 ((((mark.now ++ bytes_of 2 first) ++ bytes_of 2 second) ++ bytes_of 4 24) ++ bytes_of 4 rows) area.old }
 {
-    little_endian::put(area, 0, mark);
-    little_endian::put(area, 4, &first.to_le_bytes());
-    little_endian::put(area, 6, &second.to_le_bytes());
-    little_endian::put(area, 8, &24_u32.to_le_bytes());
-    little_endian::put(area, 12, &rows.to_le_bytes());
+    little_endian::put_bytes(area, 0, mark);
+    little_endian::put_bytes(area, 4, &first.to_le_bytes());
+    little_endian::put_bytes(area, 6, &second.to_le_bytes());
+    little_endian::put_bytes(area, 8, &24_u32.to_le_bytes());
+    little_endian::put_bytes(area, 12, &rows.to_le_bytes());
 }

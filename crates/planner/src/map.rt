@@ -53,8 +53,8 @@ fn header(map: &mut [u8], shape: Shape, g: usize)
     let equations = shape.equations as u16;
     let rows = 24 + 4 * shape.variables as u32;
     header::begin(map, &MARK, variables, equations, rows);
-    little_endian::put(map, 16, &(g as u16).to_le_bytes());
-    little_endian::put(map, 18, &[0; 6]);
+    little_endian::put_bytes(map, 16, &(g as u16).to_le_bytes());
+    little_endian::put_bytes(map, 18, &[0; 6]);
 }
 
 // The row of a variable or of an equation: the number of its component, and how many equations name it, or its kind.
@@ -62,6 +62,6 @@ fn row(map: &mut [u8], at: usize, group: u16, second: u16)
     requires { at + 4 ≤ length map.old }
     ensures { map.new ≡ over at (map_row group second) map.old }
 {
-    little_endian::put(map, at, &group.to_le_bytes());
-    little_endian::put(map, at + 2, &second.to_le_bytes());
+    little_endian::put_bytes(map, at, &group.to_le_bytes());
+    little_endian::put_bytes(map, at + 2, &second.to_le_bytes());
 }

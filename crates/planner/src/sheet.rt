@@ -54,7 +54,7 @@ fn header(area: &mut [u8], chosen: Chosen)
     } = chosen.families;
     let rows = 24 + 16 * variables as u32;
     header::begin(area, &MARK, variables as u16, components as u16, rows);
-    little_endian::put(area, 16, &chosen.worth.to_le_bytes());
+    little_endian::put_bytes(area, 16, &chosen.worth.to_le_bytes());
 }
 
 // The row of a variable, from a place on.
@@ -64,11 +64,11 @@ fn variable(area: &mut [u8], at: usize, number: i64, run: Run, group: u16)
     requires family_run { FamilyRun run }
     ensures { area.new ≡ over at (sheet_variable number run group) area.old }
 {
-    little_endian::put(area, at, &(number as i32).to_le_bytes());
-    little_endian::put(area, at + 4, &(run.first as i32).to_le_bytes());
-    little_endian::put(area, at + 8, &(run.step as i32).to_le_bytes());
-    little_endian::put(area, at + 12, &group.to_le_bytes());
-    little_endian::put(area, at + 14, &[0; 2]);
+    little_endian::put_bytes(area, at, &(number as i32).to_le_bytes());
+    little_endian::put_bytes(area, at + 4, &(run.first as i32).to_le_bytes());
+    little_endian::put_bytes(area, at + 8, &(run.step as i32).to_le_bytes());
+    little_endian::put_bytes(area, at + 12, &group.to_le_bytes());
+    little_endian::put_bytes(area, at + 14, &[0; 2]);
 }
 
 // The rows of the variables, with the numbers of their components.
@@ -93,9 +93,9 @@ fn group(area: &mut [u8], at: usize, many: u32, slope: i64)
     requires not_empty { 1 ≤ many }
     ensures { area.new ≡ over at (sheet_group many (choice slope many) slope) area.old }
 {
-    little_endian::put(area, at, &many.to_le_bytes());
-    little_endian::put(area, at + 4, &choose::choice(slope, many).to_le_bytes());
-    little_endian::put(area, at + 8, &slope.to_le_bytes());
+    little_endian::put_bytes(area, at, &many.to_le_bytes());
+    little_endian::put_bytes(area, at + 4, &choose::choice(slope, many).to_le_bytes());
+    little_endian::put_bytes(area, at + 8, &slope.to_le_bytes());
 }
 
 // The rows of the groups, into the part of the answer area that they fill. Only the lowest variable of a group has a row, so the row's

@@ -25,8 +25,8 @@ pub returns : goal.returns
 returns c = let n = c.args.first in
     let m = c.args.second in
     fields n m c.args.rows c.args.mark.now c.args.area.now _ _ _ _ _ c.requires (search rules)
-    c.put.ensures
-    (over_same 4 _ _ (c.to_le_bytes.ensures ∙ u16_bytes n) c.put-2.ensures)
-    (over_same 6 _ _ (c.to_le_bytes-2.ensures ∙ u16_bytes m) c.put-3.ensures)
-    (over_same 8 _ _ (c.to_le_bytes-3.ensures ∙ u32_bytes 24) c.put-4.ensures)
-    (over_same 12 _ _ (c.to_le_bytes-4.ensures ∙ u32_bytes c.args.rows) c.put-5.ensures)
+    c.put_bytes.ensures
+    (over_same 4 _ _ (c.to_le_bytes.ensures ∙ u16_bytes n) c.put_bytes-2.ensures)
+    (over_same 6 _ _ (c.to_le_bytes-2.ensures ∙ u16_bytes m) c.put_bytes-3.ensures)
+    (over_same 8 _ _ (c.to_le_bytes-3.ensures ∙ u32_bytes 24) c.put_bytes-4.ensures)
+    (over_same 12 _ _ (c.to_le_bytes-4.ensures ∙ u32_bytes c.args.rows) c.put_bytes-5.ensures)

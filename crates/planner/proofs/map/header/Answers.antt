@@ -28,5 +28,5 @@ pub returns : goal.returns
 returns c = let g = c.args.g in
     fields c.args.shape.variables c.args.shape.equations g c.args.map.now _ _ _ c.requires.room
     c.begin.ensures
-    (over_same 16 _ _ (c.to_le_bytes.ensures ∙ u16_bytes g) c.put.ensures)
-    (over_same 18 _ _ zeros c.put-2.ensures)
+    (over_same 16 _ _ (c.to_le_bytes.ensures ∙ u16_bytes g) c.put_bytes.ensures)
+    (over_same 18 _ _ zeros c.put_bytes-2.ensures)

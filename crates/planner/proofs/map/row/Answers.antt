@@ -21,5 +21,5 @@ fields at x y a l₁ l₂ h e₁ e₂ =
 pub returns : goal.returns
 returns c = let x = c.args in
     fields x.at x.group x.second x.map.now _ _ c.requires
-    (over_same x.at _ _ (c.to_le_bytes.ensures ∙ u16_bytes x.group) c.put.ensures)
-    (over_same (x.at + 2) _ _ (c.to_le_bytes-2.ensures ∙ u16_bytes x.second) c.put-2.ensures)
+    (over_same x.at _ _ (c.to_le_bytes.ensures ∙ u16_bytes x.group) c.put_bytes.ensures)
+    (over_same (x.at + 2) _ _ (c.to_le_bytes-2.ensures ∙ u16_bytes x.second) c.put_bytes-2.ensures)

@@ -26,6 +26,6 @@ row at many k slope a l₁ l₂ l₃ h e₁ e₂ e₃ =
 pub returns : goal.returns
 returns c = let x = c.args in
     row x.at x.many (choice x.slope x.many) x.slope x.area.now _ _ _ c.requires.room
-    (over_same x.at _ _ (c.to_le_bytes.ensures ∙ u32_bytes x.many) c.put.ensures)
-    (over_same (x.at + 4) _ _ (c.to_le_bytes-2.ensures ∙ u32_bytes c.choice.result ∙ ap (bytes_of 4) (c.choice.ensures ∙ ap (λ g. choice g x.many) (to_z-of_z c.ranges.slope))) c.put-2.ensures)
-    (over_same (x.at + 8) _ _ (i64_bytes c.ranges.slope c.to_le_bytes-3.ensures) c.put-3.ensures)
+    (over_same x.at _ _ (c.to_le_bytes.ensures ∙ u32_bytes x.many) c.put_bytes.ensures)
+    (over_same (x.at + 4) _ _ (c.to_le_bytes-2.ensures ∙ u32_bytes c.choice.result ∙ ap (bytes_of 4) (c.choice.ensures ∙ ap (λ g. choice g x.many) (to_z-of_z c.ranges.slope))) c.put_bytes-2.ensures)
+    (over_same (x.at + 8) _ _ (i64_bytes c.ranges.slope c.to_le_bytes-3.ensures) c.put_bytes-3.ensures)

@@ -30,4 +30,4 @@ pub returns : goal.returns
 returns c = let f = c.args.chosen.families in
     row f.variables f.components c.args.chosen.worth c.args.area.now _ _ c.requires
     c.begin.ensures
-    (over_same 16 _ _ (i64_bytes (search rules) c.to_le_bytes.ensures) c.put.ensures)
+    (over_same 16 _ _ (i64_bytes (search rules) c.to_le_bytes.ensures) c.put_bytes.ensures)

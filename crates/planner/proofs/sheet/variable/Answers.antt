@@ -50,8 +50,8 @@ pub returns : goal.returns
 returns c = let x = c.args in
     let f = c.requires.family_run in
     row x.at x.number x.run x.group x.area.now _ _ _ _ _ c.requires.room
-    (over_same x.at _ _ (cast_bytes c.ranges.number c.requires.small_number (omega arith) c.to_le_bytes.ensures) c.put.ensures)
-    (over_same (x.at + 4) _ _ (cast_bytes (search rules) (first-Within f) (omega arith) c.to_le_bytes-2.ensures) c.put-2.ensures)
-    (over_same (x.at + 8) _ _ (cast_bytes (search rules) (step-Within f) (omega arith) c.to_le_bytes-3.ensures) c.put-3.ensures)
-    (over_same (x.at + 12) _ _ (c.to_le_bytes-4.ensures ∙ u16_bytes x.group) c.put-4.ensures)
-    (over_same (x.at + 14) _ _ zeros c.put-5.ensures)
+    (over_same x.at _ _ (cast_bytes c.ranges.number c.requires.small_number (omega arith) c.to_le_bytes.ensures) c.put_bytes.ensures)
+    (over_same (x.at + 4) _ _ (cast_bytes (search rules) (first-Within f) (omega arith) c.to_le_bytes-2.ensures) c.put_bytes-2.ensures)
+    (over_same (x.at + 8) _ _ (cast_bytes (search rules) (step-Within f) (omega arith) c.to_le_bytes-3.ensures) c.put_bytes-3.ensures)
+    (over_same (x.at + 12) _ _ (c.to_le_bytes-4.ensures ∙ u16_bytes x.group) c.put_bytes-4.ensures)
+    (over_same (x.at + 14) _ _ zeros c.put_bytes-5.ensures)
