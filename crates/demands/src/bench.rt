@@ -18,7 +18,8 @@ pub fn plan(job: &[u8], amendments: &[u8], areas: &mut Areas) -> Outcome
 
 // Where there is no fit the first byte of the map is written again.
 fn plan_marked(job: &[u8], amendments: &[u8], areas: &mut Areas) -> Outcome
-    ensures { ShowsMap (call_of job.now amendments.now (lent_in areas.old)) (verdict_of result) (lent_in areas.new) }
+    ensures same_areas { SameBorrows areas.old areas.new }
+    ensures shows_map { ShowsMap (call_of job.now amendments.now (lent_in areas.old)) (verdict_of result) (lent_in areas.new) }
 {
     // Used by an edit alone, which writes it in place of what stood there.
     let lent_so = rewrite::get(areas.map, 0);

@@ -18,7 +18,8 @@ pub fn plan(job: &[u8], amendments: &[u8], areas: &mut Areas) -> Outcome
 
 // Bytes of a sheet are written again: the number of count 0, and that of count 1 in a group apart from it.
 fn plan_rewritten(job: &[u8], amendments: &[u8], areas: &mut Areas) -> Outcome
-    ensures { CannotBeBettered (call_of job.now amendments.now (lent_in areas.old)) (verdict_of result) (lent_in areas.new) }
+    ensures same_areas { SameBorrows areas.old areas.new }
+    ensures cannot_be_bettered { CannotBeBettered (call_of job.now amendments.now (lent_in areas.old)) (verdict_of result) (lent_in areas.new) }
 {
     // Used by an edit alone, which writes it in place of what stood there.
     let low = rewrite::get(job, 36);

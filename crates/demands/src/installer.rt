@@ -20,7 +20,8 @@ pub fn plan(job: &[u8], amendments: &[u8], areas: &mut Areas) -> Outcome
 // A job without a whole header is turned away before the planner is asked.
 #[tactic(auto, using(crate::proofs::Carried::early_gives_fits))]
 fn plan_early(job: &[u8], amendments: &[u8], areas: &mut Areas) -> Outcome
-    ensures { GivesFits (call_of job.now amendments.now (lent_in areas.old)) (verdict_of result) (lent_in areas.new) }
+    ensures same_areas { SameBorrows areas.old areas.new }
+    ensures gives_fits { GivesFits (call_of job.now amendments.now (lent_in areas.old)) (verdict_of result) (lent_in areas.new) }
 {
     if job.len() < 24 {
         return Outcome::Refused(Reason::ShortJob);
@@ -36,7 +37,8 @@ fn plan_second(
     first: &[u8],
     other: &mut Areas,
 ) -> Outcome
-    ensures { GivesFits (call_of job.now amendments.now (lent_in areas.old)) (verdict_of result) (lent_in areas.new) }
+    ensures same_areas { SameBorrows areas.old areas.new }
+    ensures gives_fits { GivesFits (call_of job.now amendments.now (lent_in areas.old)) (verdict_of result) (lent_in areas.new) }
 {
     planner::plan(first, amendments, other);
     // Named, so that an edit finds this line: the call alone stands here more than once.
@@ -46,7 +48,8 @@ fn plan_second(
 
 // The answer is taken apart and made again.
 fn plan_passed_on(job: &[u8], amendments: &[u8], areas: &mut Areas) -> Outcome
-    ensures { GivesFits (call_of job.now amendments.now (lent_in areas.old)) (verdict_of result) (lent_in areas.new) }
+    ensures same_areas { SameBorrows areas.old areas.new }
+    ensures gives_fits { GivesFits (call_of job.now amendments.now (lent_in areas.old)) (verdict_of result) (lent_in areas.new) }
 {
     match planner::plan(job, amendments, areas) {
         Outcome::Planned(worth) => Outcome::Planned(worth),
@@ -57,7 +60,8 @@ fn plan_passed_on(job: &[u8], amendments: &[u8], areas: &mut Areas) -> Outcome
 
 // Bytes of the sheet of one count are written again: its group and its fits.
 fn plan_single(job: &[u8], amendments: &[u8], areas: &mut Areas) -> Outcome
-    ensures { GivesFits (call_of job.now amendments.now (lent_in areas.old)) (verdict_of result) (lent_in areas.new) }
+    ensures same_areas { SameBorrows areas.old areas.new }
+    ensures gives_fits { GivesFits (call_of job.now amendments.now (lent_in areas.old)) (verdict_of result) (lent_in areas.new) }
 {
     let outcome = planner::plan(job, amendments, areas);
     let area = &mut *areas.sheet;
@@ -71,7 +75,8 @@ fn plan_single(job: &[u8], amendments: &[u8], areas: &mut Areas) -> Outcome
 
 // Bytes of count 1, in a group apart from count 0, are written again: its number and its group.
 fn plan_apart(job: &[u8], amendments: &[u8], areas: &mut Areas) -> Outcome
-    ensures { GivesFits (call_of job.now amendments.now (lent_in areas.old)) (verdict_of result) (lent_in areas.new) }
+    ensures same_areas { SameBorrows areas.old areas.new }
+    ensures gives_fits { GivesFits (call_of job.now amendments.now (lent_in areas.old)) (verdict_of result) (lent_in areas.new) }
 {
     // Used by an edit alone, which writes it in place of what stood there.
     let low = rewrite::get(job, 36);

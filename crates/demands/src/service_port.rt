@@ -18,7 +18,8 @@ pub fn plan(job: &[u8], amendments: &[u8], areas: &mut Areas) -> Outcome
 
 // A job without a whole header is turned away before the planner is asked.
 fn plan_early(job: &[u8], amendments: &[u8], areas: &mut Areas) -> Outcome
-    ensures { TurnsAway (call_of job.now amendments.now (lent_in areas.old)) (verdict_of result) (lent_in areas.new) }
+    ensures same_areas { SameBorrows areas.old areas.new }
+    ensures turns_away { TurnsAway (call_of job.now amendments.now (lent_in areas.old)) (verdict_of result) (lent_in areas.new) }
 {
     if job.len() < 24 {
         return Outcome::Refused(Reason::ShortJob);

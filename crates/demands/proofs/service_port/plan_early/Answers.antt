@@ -4,5 +4,5 @@ use Rattle.planner.specs.Lending.{lent_in}
 use Rattle.demands.proofs.Carried.{early_turns_away}
 use Rattle.demands.proofs.service_port.plan_early.Goals as goal
 
-pub returns-then-job-lt24 : goal.returns-then-job-lt24
-returns-then-job-lt24 c = early_turns_away c.args.job.now c.args.amendments.now (lent_in c.args.areas.now) (omega (arith, c.if-job-lt24.true))
+pub returns-then-job-lt24-clause-turns_away : goal.returns-then-job-lt24-clause-turns_away
+returns-then-job-lt24-clause-turns_away c = early_turns_away c.args.job.now c.args.amendments.now (lent_in c.args.areas.now) (omega (arith, c.if-job-lt24.true))
