@@ -61,7 +61,7 @@ module _ (s : List ℕ) (n m : ℕ) (p : n ≡ variable_count s) (q : m ≡ equa
     numbers = number;
     degrees = λ i h. f.degrees.at i h ∙ ap (λ m. degree_by j m i) (ties s n m p q);
     homes = λ k h. ap (component_by (label_in t.labels) n) (f.homes.at k h) ∙ number (home (equation j k)) (below k h);
-    kinds = f.kinds;
+    kinds = λ k h. f.kinds.at k h;
   }
 
   pub map_is : map_of (structure_in t n m) ≡ map_of (structure (job_of s))

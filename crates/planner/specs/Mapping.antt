@@ -4,7 +4,6 @@ use Rattle.std.specs.List.{slice_index_or}
 use Rattle.jobs.specs.Structure.{Structure}
 use Rattle.families.specs.ModelFindings.{leads_by, component_by}
 use Rattle.solver.specs.StateArrays.{label_in}
-use Rattle.solver.specs.Structured.{kind_in}
 use Rattle.solver.specs.declared.structure.Structure.{Structure as Found}
 
 -- each of the first m numbers is below n
@@ -20,5 +19,5 @@ structure_in t n m = record {
   component = component_by (label_in t.labels) n;
   degree = λ i. slice_index_or t.degrees i 0;
   equation_component = λ k. component_by (label_in t.labels) n (slice_index_or t.homes k 0);
-  kind = kind_in t.kinds;
+  kind = λ k. slice_index_or t.kinds k 0;
 }

@@ -27,7 +27,7 @@ use choose::{Chosen, Families};
 use jobs::{Accepted, Bounds};
 use reasons::Reason;
 use runs::Run;
-use solver::structure::{Kind, Structure};
+use solver::structure::Structure;
 use solver::{State, components, equations, structure, variables};
 
 // the choice in each component
@@ -122,7 +122,7 @@ fn surveyed(accepted: Accepted, areas: &mut Areas) -> Result<usize, Reason>
         labels: [0; 256],
         degrees: [0; 256],
         homes: [0; 1024],
-        kinds: [Kind::Joins; 1024],
+        kinds: [0; 1024],
     };
     structure::of_job(accepted.lawful, &mut structure);
     let g = components::count(&structure.labels, shape.variables);

@@ -40,7 +40,7 @@ pub(crate) fn write(map: &mut [u8], structure: &Structure, shape: Shape, g: usiz
     let rows = 24 + 4 * shape.variables;
     for k in 0..shape.equations {
         let group = numbers[structure.homes[k] as usize];
-        row(map, rows + 4 * k, group, u16::from(structure.kinds[k]));
+        row(map, rows + 4 * k, group, structure.kinds[k]);
     }
 }
 

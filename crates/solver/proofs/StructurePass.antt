@@ -21,27 +21,23 @@ use Rattle.jobs.proofs.NormalForm.{binary?, Binary-false, normal-Binary, normal-
 use Rattle.jobs.proofs.Structure.{kind_unary, degree_none, degree_most, degree_named, degree_other}
 use Rattle.solver.specs.Labels.{Labels}
 use Rattle.solver.proofs.LawfulRows.{Sizes, n_most, m_most, left_below, right_below, normal_left, normal_right}
-use Rattle.solver.specs.Structured.{kind_number, kind_in, added}
-use Rattle.solver.specs.declared.structure.Kind.{Kind}
-use Rattle.solver.specs.declared.structure.Kind.TheVariants.{Joins}
+use Rattle.solver.specs.Structured.{added}
 
 -- labels and degrees of n variables, homes and kinds of k equations
-pub record Through (j : Job) (n k : ℕ) (labels degrees homes : List ℕ) (kinds : List Kind) : Type 0 where
+pub record Through (j : Job) (n k : ℕ) (labels degrees homes kinds : List ℕ) : Type 0 where
   pub labelled : Labels j k n labels
   pub wide : length degrees ≡ 256
   pub named : Tabulates 0 (degree_by j k) n degrees
   pub belongs : Filled 1024 0 (λ k. home (equation j k)) k homes
-  pub sorted_1024 : length kinds ≡ 1024
-  pub sorts : (i : ℕ) → i < k → kind_in kinds i ≡ kind j i
+  pub sorts : Filled 1024 0 (kind j) k kinds
 
-pub begins : (j : Job) (n : ℕ) (labels homes : List ℕ) (kinds : List Kind) → Labels j 0 n labels → length homes ≡ 1024 → length kinds ≡ 1024 → Through j n 0 labels (replicate 256 0) homes kinds
+pub begins : (j : Job) (n : ℕ) (labels homes kinds : List ℕ) → Labels j 0 n labels → length homes ≡ 1024 → length kinds ≡ 1024 → Through j n 0 labels (replicate 256 0) homes kinds
 begins j n labels homes kinds a p q = record {
   labelled = a;
   wide = length-replicate {A = ℕ} 256 0;
   named = record { at = λ i h. all_same 256 i 0 ∙ sym (degree_none j i) };
   belongs = unfilled 0 (λ k. home (equation j k)) homes p;
-  sorted_1024 = q;
-  sorts = λ i h. absurd (omega (arith, h));
+  sorts = unfilled 0 (kind j) kinds q;
 }
 
 -- ---- an equation more adds one to each of its two variables, and one to a variable that it names twice
@@ -137,7 +133,7 @@ pub record Row (n k : ℕ) (degrees : List ℕ) (e x : Equation) : Type 0 where
   pub right_small : get_or (more degrees e.left) e.right 0 ≤ k + 1
   pub added_small : added e.left e.right ≤ 1
 
-pub row : {s labels degrees homes : List ℕ} {n m k : ℕ} {kinds : List Kind} → Sizes s n m → k < m → Through (job_of s) n k labels degrees homes kinds →
+pub row : {s labels degrees homes kinds : List ℕ} {n m k : ℕ} → Sizes s n m → k < m → Through (job_of s) n k labels degrees homes kinds →
     (e x : Equation) → e ≡ equation (job_of s) k → x ≡ normal e → Row n k degrees e x
 row {s} {degrees = degrees} {n = n} {k = k} z h t e x is normal_is = record {
   few = n_most z;
@@ -171,7 +167,7 @@ row {s} {degrees = degrees} {n = n} {k = k} z h t e x is normal_is = record {
     x_is = normal_is ∙ ap normal is
 
 -- and what is found with it
-module _ {j : Job} {n k : ℕ} {labels degrees homes : List ℕ} {kinds : List Kind} (t : Through j n k labels degrees homes kinds) (e x : Equation)
+module _ {j : Job} {n k : ℕ} {labels degrees homes kinds : List ℕ} (t : Through j n k labels degrees homes kinds) (e x : Equation)
     (is : e ≡ equation j k) (normal_is : x ≡ normal e) (r : Row n k degrees e x) where
   left : (equation j k).left < n
   left = subst (λ e. e.left < n) is r.left
@@ -184,7 +180,7 @@ module _ {j : Job} {n k : ℕ} {labels degrees homes : List ℕ} {kinds : List K
 
   -- with the labels after it, and what was found of its kind and of what it adds to its right variable
   pub onward : (after : List ℕ) → Labels j (k + 1) n after → (b : Bool) → b ≡ is_binary e → {l r : ℕ} → l ≡ get_or labels x.left 0 → r ≡ get_or labels x.right 0 →
-      (y : Kind) → kind_number y ≡ kind_by b l r → (z : ℕ) → z ≡ added e.left e.right →
+      (y : ℕ) → y ≡ kind_by b l r → (z : ℕ) → z ≡ added e.left e.right →
       Through j n (k + 1) after (set (more degrees e.left) e.right (get_or (more degrees e.left) e.right 0 + z)) (set homes k x.left) (set kinds k y)
   onward after a b f u v y q z w = record {
     labelled = a;
@@ -195,16 +191,9 @@ module _ {j : Job} {n k : ℕ} {labels degrees homes : List ℕ} {kinds : List K
         subst (λ z. Tabulates 0 (degree_by j (k + 1)) n (set (more degrees e.left) e.right (get_or (more degrees e.left) e.right 0 + z))) (sym w)
         (subst (λ e. Tabulates 0 (degree_by j (k + 1)) n (counted degrees e.left e.right)) (sym is) (degrees_next j k n degrees t.wide r.few t.named left right));
     belongs = filled 0 (λ k. home (equation j k)) k homes t.belongs x.left r.below (ap (λ e. e.left) x_is ∙ normal-home (equation j k));
-    sorted_1024 = length-set kinds k y ∙ t.sorted_1024;
-    sorts = λ i h. sorted i h (ℕ_discrete i k);
+    sorts = filled 0 (kind j) k kinds t.sorts y r.below (q ∙ ap₂ (kind_by b) u v ∙ kinds_same ∙ kind_by_lem j k n labels t.labelled left right);
   }
     where
       kinds_same : kind_by b (get_or labels x.left 0) (get_or labels x.right 0)
           ≡ kind_by (is_binary (equation j k)) (get_or labels (normal_row j k).left 0) (get_or labels (normal_row j k).right 0)
       kinds_same = ap₂ (λ b x. kind_by b (get_or labels x.left 0) (get_or labels x.right 0)) (f ∙ ap is_binary is) x_is
-
-      sorted : (i : ℕ) → i < k + 1 → Dec (i ≡ k) → kind_in (set kinds k y) i ≡ kind j i
-      sorted i h (yes s) =
-          rw s (ap kind_number (get_or-set_same kinds k y Joins (omega (arith, r.below, t.sorted_1024)))
-          ∙ q ∙ ap₂ (kind_by b) u v ∙ kinds_same ∙ kind_by_lem j k n labels t.labelled left right)
-      sorted i h (no d) = ap kind_number (get_or-set_other kinds k i y Joins d) ∙ t.sorts i (omega (arith, h, d))

@@ -1,5 +1,5 @@
 -- What is promised of the pass over the equations.
-use Rattle.std.specs.Prelude.{◌≡◌, cond, List, ℕ, ◌<◌, eqb, get_or}
+use Rattle.std.specs.Prelude.{cond, ℕ, eqb}
 use Rattle.lists.specs.Table.{Tabulates}
 use Rattle.jobs.specs.Job.{Job, equation}
 use Rattle.jobs.specs.NormalForm.{home}
@@ -15,16 +15,13 @@ kind_number Joins = 1
 kind_number Ring = 2
 kind_number Fixes = 3
 
-abbrev pub kind_in : List Kind → ℕ → ℕ
-kind_in kinds k = kind_number (get_or kinds k Joins)
-
 -- after the first m equations of the job: the labels of n variables, and how many equations name each; and of each equation its home
 -- and its kind
 pub record Structured (j : Job) (m n : ℕ) (t : Structure) : Type 0 where
   pub labels : Labels j m n t.labels
   pub degrees : Tabulates 0 (degree_by j m) n t.degrees
   pub homes : Tabulates 0 (λ k. home (equation j k)) m t.homes
-  pub kinds : (k : ℕ) → k < m → kind_in t.kinds k ≡ kind j k
+  pub kinds : Tabulates 0 (kind j) m t.kinds
 
 -- what an equation adds to its right variable's number, when it has added one to its left one's
 abbrev pub added : ℕ → ℕ → ℕ

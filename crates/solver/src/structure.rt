@@ -47,13 +47,14 @@ impl Kind {
 
 /// What the pass finds: of each variable its label, the lowest variable of its component, and how many equations name it; of each
 /// equation its home, the variable whose component is its own, and its kind.
-// Arrays side by side: `components::count` and `numbers` take the labels alone.
+// Arrays side by side: `components::count` and `numbers` take the labels alone. Kinds are kept by their numbers, so that `of_job`, which is
+// public, takes an array whatever numbers it has.
 #[derive(Clone, Copy)]
 pub struct Structure {
     pub labels: [u16; 256],
     pub degrees: [u16; 256],
     pub homes: [u16; 1024],
-    pub kinds: [Kind; 1024],
+    pub kinds: [u16; 1024],
 }
 
 /// The structure of a job, put in `found`, whatever that has.
@@ -68,7 +69,7 @@ pub fn of_job(job: LawfulJob, found: &mut Structure)
         let row = e.normal();
         let l = components.label(row.left);
         let r = components.label(row.right);
-        found.kinds[k] = Kind::of(e.is_binary(), l, r);
+        found.kinds[k] = u16::from(Kind::of(e.is_binary(), l, r));
         found.homes[k] = row.left as u16;
         found.degrees[e.left] += 1;
         found.degrees[e.right] += added(e.left, e.right);

@@ -1,5 +1,5 @@
 -- `write` meets its contract: the header, the variables' rows and the equations' rows.
-use mathlib.Core.Path.{◌≡◌, refl, ◌∙◌, ap, ap₂}
+use mathlib.Core.Path.{◌≡◌, refl, ◌∙◌, ap}
 use mathlib.Core.List.{List}
 use Prim.Native.Nat.{ℕ, ◌+◌, ◌*◌, ◌≤◌, ◌<◌}
 use native.Mathlib.Omega.{arith}
@@ -12,7 +12,6 @@ use Rattle.jobs.proofs.MapFields.{length_header, length_rows}
 use Rattle.families.specs.ModelFindings.{leads_by, component_by}
 use Rattle.solver.specs.declared.structure.Structure.{Structure}
 use Rattle.solver.specs.StateArrays.{label_in}
-use Rattle.solver.specs.Structured.{kind_in}
 use Rattle.solver.specs.Labels.{Lowest}
 use Rattle.solver.proofs.LowestVariables.{leads_length, component_same}
 use Rattle.planner.specs.Mapping.{structure_in}
@@ -37,7 +36,7 @@ module _ (t : Structure) (n : ℕ) where
       let head = map_header n m (length (leads_by (label_in t.labels) n)) in
       let w₁ : Written 0 24 a head l₁ = record { is = over_same 0 a l₁ (ap (map_header n m) q) e₁; wide = length_header n m (length (leads_by (label_in t.labels) n)) } in
       let w₂ = behind_it w₁ (omega arith) (map_rows (of_variable t n) (at t.degrees) n) e₂ refl (length_rows (of_variable t n) (at t.degrees) n) in
-      (behind_it w₂ (omega arith) (map_rows (of_equation t n) (kind_in t.kinds) m) e₃ (omega arith) (length_rows (of_equation t n) (kind_in t.kinds) m)).is
+      (behind_it w₂ (omega arith) (map_rows (of_equation t n) (at t.kinds) m) e₃ (omega arith) (length_rows (of_equation t n) (at t.kinds) m)).is
 
 pub header-requires-clause-few_components : goal.header-requires-clause-few_components
 header-requires-clause-few_components c = let x = c.args in omega (arith, c.requires.counted, leads_length (label_in x.structure.now.labels) x.shape.variables, x.shape.few_variables)
@@ -56,14 +55,14 @@ loop-i-preserved c = let t = c.args.structure.now in
 pub loop-k-init : goal.loop-k-init
 loop-k-init c = let t = c.args.structure.now in
     let n = c.args.shape.variables in
-    none (of_equation t n) (kind_in t.kinds) (24 + 4 * n) c.loop-i.map (omega (arith, c.requires.room))
+    none (of_equation t n) (at t.kinds) (24 + 4 * n) c.loop-i.map (omega (arith, c.requires.room))
 
 pub loop-k-preserved : goal.loop-k-preserved
 loop-k-preserved c = let t = c.args.structure.now in
     let n = c.args.shape.variables in
     let k = c.loop-k.k in
-    more (of_equation t n) (kind_in t.kinds) (24 + 4 * n) c.loop-i.map k _ _ (omega (arith, c.requires.room)) c.loop-k.invariant
-    (over_same (24 + 4 * n + 4 * k) c.loop-k.map _ (ap₂ map_row (c.numbers-numbers.ensures.at (at t.homes k) (c.requires.all_below.at k (omega arith))) c.from.ensures) c.row-in-loop-k.ensures)
+    more (of_equation t n) (at t.kinds) (24 + 4 * n) c.loop-i.map k _ _ (omega (arith, c.requires.room)) c.loop-k.invariant
+    (over_same (24 + 4 * n + 4 * k) c.loop-k.map _ (ap (λ g. map_row g (at t.kinds k)) (c.numbers-numbers.ensures.at (at t.homes k) (c.requires.all_below.at k (omega arith)))) c.row-in-loop-k.ensures)
 
 pub returns : goal.returns
 returns c = let x = c.args in

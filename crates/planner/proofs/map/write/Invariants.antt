@@ -7,7 +7,6 @@ use Rattle.little_endian.specs.Over.{over}
 use Rattle.jobs.specs.MapLayout.{map_rows}
 use Rattle.families.specs.ModelFindings.{component_by}
 use Rattle.solver.specs.StateArrays.{label_in}
-use Rattle.solver.specs.Structured.{kind_in}
 use Rattle.solver.specs.declared.structure.Structure.{Structure}
 use Rattle.planner.proofs.map.write.Given as goal
 
@@ -23,7 +22,7 @@ abbrev pub with_variables : Structure → ℕ → ℕ → List ℕ → List ℕ
 with_variables t n i a = over 24 (map_rows (of_variable t n) (λ i. get_or t.degrees i 0) i) a
 
 abbrev pub with_equations : Structure → ℕ → ℕ → List ℕ → List ℕ
-with_equations t n k a = over (24 + 4 * n) (map_rows (of_equation t n) (kind_in t.kinds) k) a
+with_equations t n k a = over (24 + 4 * n) (map_rows (of_equation t n) (λ k. get_or t.kinds k 0) k) a
 
 abbrev pub invariant-loop-i : goal.invariant-loop-i
 invariant-loop-i l = l.map ≡ with_variables l.structure l.fn.shape.variables l.i l.initial.map

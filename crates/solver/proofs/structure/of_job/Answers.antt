@@ -53,5 +53,5 @@ loop-k-preserved c = let r = here (goal.at.loop-k-preserved c).After-normal-row 
   omega (arith, c.join.ensures.as_many, c.loop-k.invariant.0),
   onward c.loop-k.invariant.1 c.equation-e.result c.normal-row.result c.equation-e.ensures c.normal-row.ensures r c.join.new.self.labels
       (joined (job_of c.args.job.job.bytes.now) c.loop-k.k c.loop-k.invariant.1.labelled (c.normal-row.ensures ∙ ap normal c.equation-e.ensures) r.home r.other c.label-l.ensures.value c.label-r.ensures.value c.loop-k.invariant.0 c.join.ensures.merges)
-      c.is_binary.result c.is_binary.ensures c.label-l.ensures.value c.label-r.ensures.value c.of.result c.of.ensures c.added.result c.added.ensures,
+      c.is_binary.result c.is_binary.ensures c.label-l.ensures.value c.label-r.ensures.value c.from.result (c.from.ensures ∙ c.of.ensures) c.added.result c.added.ensures,
 )
