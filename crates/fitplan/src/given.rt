@@ -1,9 +1,10 @@
-//! What the program is given: its words, the job, from standard input, and its amendments, from a file.
+//! What the program is given: its words, the job, from standard input, and its amendments, from a file. Both go into buffers of `main`, so
+//! that no memory has to be asked for.
 
-ghost use Rattle.std.specs.Prelude.{◌≢◌, ◌≤◌, IfErr, IfOk, vec_len};
+ghost use Rattle.std.specs.Prelude.{◌≢◌, IfErr};
+ghost use Rattle.std.specs.Io.{ReadsAtMost};
 ghost use Rattle.std.specs.IoError.{error_kind};
 
-use std::alloc::Global;
 use std::env::FillError;
 use std::fs::File;
 use std::io;
@@ -45,25 +46,33 @@ fn told<T>(rt: &impl Eprint, name: &str, e: io::Error) -> io::Result<T> {
     Err(e)
 }
 
-/// The amendments in an open file, and none where there is no file. One byte more is read than the most amendments have, 20·512 bytes. Of a
-/// longer file so much is enough: where the job is not refused, it is, for its length (`longer_same` in
-/// `crates/jobs/proofs/LongInput.antt`).
-pub(crate) fn read_amendments(file: Option<impl Read + Drop>, alloc: Global) -> io::Result<Vec<u8>>
-    ensures limit { IfOk result (λ amendments. vec_len amendments ≤ 10241) }
+/// One byte more than the most amendments, 20·512 bytes. Of a longer file so much is enough: where the job is not refused, it is, for its
+/// length (`longer_same` in `crates/jobs/proofs/LongInput.antt`).
+pub type Amendments = [u8; 10241];
+
+/// Reads the amendments in an open file, as `input::fill` does; where there is no file there are none.
+pub(crate) fn read_amendments(
+    file: Option<impl Read + Drop>,
+    buffer: &mut Amendments,
+) -> io::Result<usize>
+    ensures prefix { ReadsAtMost result buffer.new }
     ensures retried { IfErr result (λ e. error_kind e ≢ ErrorKind.Interrupted) }
 {
     match file {
-        Some(file) => input::read_up_to(file, 10241, alloc),
-        None => Ok(Vec::new(alloc)),
+        Some(mut file) => input::fill(&mut file, buffer),
+        None => Ok(0),
     }
 }
 
-/// The job on standard input. One byte more is read than the longest lawful job has, 24 + 12·256 + 20·1,024 bytes. Of longer input so much
-/// is enough: reasons 1 to 3 look only at the header, and as no lawful job is of that length, reason 4 holds of the part as of the whole
-/// (`longer_same`: verdict and areas are the same).
-pub(crate) fn read_job(rt: &impl Input, alloc: Global) -> io::Result<Vec<u8>>
-    ensures limit { IfOk result (λ job. vec_len job ≤ 23577) }
+/// One byte more than the longest lawful job, 24 + 12·256 + 20·1,024 bytes. Of longer input so much is enough: reasons 1 to 3 look only at
+/// the header, and as no lawful job is of that length, reason 4 holds of the part as of the whole (`longer_same`: verdict and areas are the
+/// same).
+pub type Job = [u8; 23577];
+
+/// Reads the job on standard input, as `input::fill` does.
+pub(crate) fn read_job(rt: &impl Input, buffer: &mut Job) -> io::Result<usize>
+    ensures prefix { ReadsAtMost result buffer.new }
     ensures retried { IfErr result (λ e. error_kind e ≢ ErrorKind.Interrupted) }
 {
-    input::read_up_to(rt.reader(), 23577, alloc)
+    input::fill(&mut rt.reader(), buffer)
 }

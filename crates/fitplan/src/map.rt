@@ -2,10 +2,10 @@
 
 ghost use Rattle.std.specs.Prelude.{◌≡◌, length};
 
+use crate::page::Page;
 use little_endian::u16_at;
 use planner::Outcome;
 use std::fmt::{Display, Formatter};
-use std::io::Write;
 use std::{fmt, io};
 
 /// As long as the longest map: 24 + 4·256 + 4·1,024.
@@ -41,38 +41,49 @@ impl Display for Kind {
 }
 
 /// Nothing where the job is refused: then there is no map.
-pub(crate) fn show(out: &mut impl Write, outcome: Outcome, map: &Map) -> io::Result<()> {
+pub(crate) fn show(
+    rt: &impl Print,
+    page: &mut Page,
+    outcome: Outcome,
+    map: &Map,
+) -> io::Result<()> {
     if let Outcome::Refused(_) = outcome {
         return Ok(());
     }
     let n = usize::from(u16_at(map, 4)).min(256);
     let m = usize::from(u16_at(map, 6)).min(1024);
     let g = u16_at(map, 16);
-    writeln!(out, "map counts {n} equations {m} groups {g}")?;
+    page.line(rt, format_args!("map counts {n} equations {m} groups {g}"))?;
     // Rows of counts and of equations take 4 bytes, and stand one behind the other. One function for these two loops and those over a
     // sheet's rows (`report`) would take a width and two closures, and be no plainer.
     let (counts, equations) = map[24..].split_at(4 * n);
     for (i, row) in counts.chunks_exact(4).enumerate() {
-        show_count(out, i, row)?;
+        show_count(rt, page, i, row)?;
     }
     for (k, row) in equations.chunks_exact(4).take(m).enumerate() {
-        show_equation(out, k, row)?;
+        show_equation(rt, page, k, row)?;
     }
     Ok(())
 }
 
-fn show_count(out: &mut impl Write, i: usize, row: &[u8]) -> io::Result<()>
+fn show_count(rt: &impl Print, page: &mut Page, i: usize, row: &[u8]) -> io::Result<()>
     requires { length row.now ≡ 4 }
 {
     let group = u16_at(row, 0);
     let equations = u16_at(row, 2);
-    writeln!(out, "map count {i} group {group} equations {equations}")
+    page.line(
+        rt,
+        format_args!("map count {i} group {group} equations {equations}"),
+    )
 }
 
-fn show_equation(out: &mut impl Write, k: usize, row: &[u8]) -> io::Result<()>
+fn show_equation(rt: &impl Print, page: &mut Page, k: usize, row: &[u8]) -> io::Result<()>
     requires { length row.now ≡ 4 }
 {
     let group = u16_at(row, 0);
     let kind = Kind::from(u16_at(row, 2));
-    writeln!(out, "map equation {k} group {group} kind {kind}")
+    page.line(
+        rt,
+        format_args!("map equation {k} group {group} kind {kind}"),
+    )
 }

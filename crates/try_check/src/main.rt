@@ -12,6 +12,6 @@ mod report;
 
 fn main(rt: HostRuntime) -> io::Result<()> {
     let alloc = rt.alloc();
-    let text = input::read(&rt, alloc)?;
+    let text = input::read_text(&rt, alloc)?;
     report::run(&rt, alloc, text.as_slice())
 }

@@ -11,7 +11,7 @@ use std::io;
 
 // Where memory comes from and where is printed go along as two: a struct of both would name the type of each again.
 pub(crate) fn all(rt: &(impl Input + Print), alloc: Global) -> io::Result<()> {
-    let text = input::read(rt, alloc)?;
+    let text = input::read_text(rt, alloc)?;
     let mut family = Tally::default();
     // What no line end closes is no line, and passed over. Other programs go through their lines likewise; all that they share is `input`.
     for written in text.as_slice().split_inclusive(|x| *x == b'\n') {

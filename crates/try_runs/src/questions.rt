@@ -12,7 +12,7 @@ use std::alloc::Global;
 use std::io;
 
 pub(crate) fn all(rt: &(impl Input + Print), alloc: Global) -> io::Result<()> {
-    let text = input::read(rt, alloc)?;
+    let text = input::read_text(rt, alloc)?;
     // What no line end closes is no line, and passed over. The loop of `try_plan` is another: one for both would lend each line to a
     // closure that may fail, and be no shorter.
     for line in text.as_slice().split_inclusive(|x| *x == b'\n') {
