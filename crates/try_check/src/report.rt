@@ -7,17 +7,19 @@ use std::io;
 
 pub(crate) fn run(rt: &impl Print, alloc: Global, text: &[u8]) -> io::Result<()> {
     let mut paper = Paper::new(alloc)?;
-    // By two places and no split: a brace without its other has to be passed over.
+    // By a place and no split: a brace without its other has to be passed over.
     let mut printed = 0;
-    let mut opened = 0;
+    // What stands behind the last brace that opens: each byte is read once, however many close behind it.
+    let mut numbers = Numbers::new();
     for (i, x) in text.iter().enumerate() {
+        numbers.read(*x);
         match *x {
             b'{' => {
                 rt.write_all(&text[printed..i])?;
-                opened = i + 1;
+                numbers = Numbers::new();
             }
             b'}' => {
-                answer(rt, alloc, &mut paper, &Numbers::of(&text[opened..i]))?;
+                answer(rt, alloc, &mut paper, &numbers)?;
                 printed = i + 1;
             }
             _ => {}

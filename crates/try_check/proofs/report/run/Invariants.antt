@@ -1,6 +1,6 @@
--- What is printed, and where the last brace opened, lies behind.
+-- What is printed lies behind.
 use Rattle.std.proofs.Common.{◌≤◌}
 use Rattle.try_check.proofs.report.run.Given as goal
 
 abbrev pub invariant-loop-i : goal.invariant-loop-i
-invariant-loop-i g l = (l.printed ≤ l.i) × (l.opened ≤ l.i)
+invariant-loop-i g l = l.printed ≤ l.i
