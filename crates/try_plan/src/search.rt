@@ -13,6 +13,9 @@ pub type List = [i8; 5];
 // there is none, has numbers all the same.
 const NOTHING: List = [-128; 5];
 
+// No code is as great, of a group whose variables with numbers have no more lists than this.
+const PAST: u64 = 65536;
+
 // Further variables, which a small job does not have, have the number of the last.
 fn number(list: List, i: u16) -> i8 {
     list[usize::from(i.min(4))]
@@ -56,11 +59,13 @@ impl Part<'_> {
             if let Some(variable) = self.member(i) {
                 let width = variable.width();
                 if width == 0 {
-                    return None;
+                    list[usize::from(i)] = 0;
+                    rest = PAST;
+                } else {
+                    let above = (rest % width) as u8;
+                    list[usize::from(i)] = variable.low.wrapping_add(above.cast_signed());
+                    rest /= width;
                 }
-                let above = (rest % width) as u8;
-                list[usize::from(i)] = variable.low.wrapping_add(above.cast_signed());
-                rest /= width;
             }
         }
         if rest == 0 { Some(list) } else { None }
