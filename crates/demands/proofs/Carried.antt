@@ -11,7 +11,7 @@ use Rattle.jobs.proofs.Outcomes.{no_header}
 use Rattle.jobs.proofs.DemandsHold.{turns_away}
 use Rattle.families.proofs.SheetFamilies.{definitions_give_fits}
 
-turned_early : (P : Verdict → Areas → Type 0) (c : Call) → length c.job < 24 → P (verdict c) (areas_after c) → P (refused 1 0) c.lent
+pub turned_early : (P : Verdict → Areas → Type 0) (c : Call) → length c.job < 24 → P (verdict c) (areas_after c) → P (refused 1 0) c.lent
 turned_early P c h p = let (v, a) = no_header c h in subst (λ v. P v c.lent) v (subst (P (verdict c)) a p)
 
 -- s are the job's bytes, a those of its amendments

@@ -34,10 +34,10 @@ held_run r many f t = same_run (to_z-of_z f) (to_z-of_z t) refl
 
 -- ---- one component
 module _ (labels : List ℕ) (runs : List Run) (g : ℕ) (kept : Run) where
-  part_other : (v : ℕ) → label_in labels v ≢ g → gathered labels runs v ≡ part_of labels runs g kept v
+  pub part_other : (v : ℕ) → label_in labels v ≢ g → gathered labels runs v ≡ part_of labels runs g kept v
   part_other v h = sym (ap (λ b. cond b (through (gathered labels runs v) kept) (gathered labels runs v)) (ne_eqb (label_in labels v) g h))
 
-  part_own : (v : ℕ) → label_in labels v ≡ g → through (gathered labels runs v) kept ≡ part_of labels runs g kept v
+  pub part_own : (v : ℕ) → label_in labels v ≡ g → through (gathered labels runs v) kept ≡ part_of labels runs g kept v
   part_own v h = sym (ap (λ b. cond b (through (gathered labels runs v) kept) (gathered labels runs v)) (eq-eqb (label_in labels v) g h))
 
 -- the array once it is written how many stay
