@@ -26,7 +26,8 @@ impl Page {
         }
     }
 
-    /// Puts a line with this text behind those that the page has.
+    /// Puts a line with this text behind those that the page has. It fails where a full page is to be written first and that write does, and
+    /// for a text of more than 79 bytes, which none is; the page is then as it was.
     pub(crate) fn line(&mut self, rt: &impl Print, text: impl Display + Drop) -> io::Result<()>
         ensures unwritten { OnErr result (self.new ≡ self.old) }
     {
@@ -39,6 +40,7 @@ impl Page {
     fn add(&mut self, rt: &impl Print, line: Line) -> io::Result<()>
         ensures unwritten { OnErr result (self.new ≡ self.old) }
     {
+        // 80 bytes less than it holds
         if self.used > 16304 {
             self.write(rt)?;
             self.used = 0;

@@ -13,7 +13,8 @@ pub type List = [i8; 5];
 // there is none, has numbers all the same.
 const NOTHING: List = [-128; 5];
 
-// No code is as great, of a group whose variables with numbers have no more lists than this.
+// What is left of a code at a variable without a number, so that no list comes of it. The other variables of the group use it up only where
+// they have more lists than this, and then lists come that there are none of.
 const PAST: u64 = 65536;
 
 // Further variables, which a small job does not have, have the number of the last.
